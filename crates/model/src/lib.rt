@@ -1,0 +1,1 @@
+// The tree's meaning: definitions in specs/, and the laws that are proved of them.

@@ -1,0 +1,3 @@
+pub mod Replicas
+pub mod Room
+pub mod Progress

@@ -1,0 +1,1 @@
+// Replicas, runs and the room: definitions in specs/ only.
