@@ -1,0 +1,9 @@
+pub mod Members
+pub mod Same
+pub mod Proper
+pub mod Once
+pub mod Deeds
+pub mod Going
+pub mod Refusals
+pub mod Histories
+pub mod Weighing

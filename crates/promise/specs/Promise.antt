@@ -29,3 +29,7 @@ Whole {M} room can c = LikeARoom (tree room can) c × BusyAtNine (tree room can)
 -- the promise for the calls that are built first
 abbrev pub CoreWhole : {M : Type 0} → ℕ → Code M Call Reply → Type 0
 CoreWhole {M} room c = Whole room core c
+
+-- Of the clerk himself, whichever calls are built: what is refused changes nothing. (A call that is handed back undone changes nothing by what the room is.)
+abbrev pub RefusedChangesNothing : Type 0
+RefusedChangesNothing = (room : ℕ) (can : Call → Bool) (c : Call) (s : State) (n k : ℕ) → tree room can .reply c s ≡ No n k → tree room can .next c s ≡ s

@@ -1,3 +1,5 @@
 pub mod Replicas
 pub mod Room
 pub mod Progress
+pub mod Carrying
+pub mod Order
