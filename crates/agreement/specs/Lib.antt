@@ -1,0 +1,10 @@
+pub mod Quorum
+pub mod Facts
+pub mod Content
+pub mod Log
+pub mod Machine
+pub mod Agree
+pub mod Said
+pub mod Sums
+pub mod Waiting
+pub mod Table
