@@ -1,0 +1,10 @@
+pub mod Cells
+pub mod Counts
+pub mod Firsts
+pub mod Kids
+pub mod Keeps
+pub mod Made
+pub mod Preludes
+pub mod Pushes
+pub mod Sessions
+pub mod Weights

@@ -1,0 +1,4 @@
+pub mod Layout
+pub mod Fits
+pub mod Searches
+pub mod Drafts

@@ -1,0 +1,4 @@
+pub mod Ends
+pub mod Rises
+pub mod Scans
+pub mod Uniques

@@ -1,0 +1,2 @@
+// Bytes that come from elsewhere, accepted as a tree or refused.
+pub mod scanning;
