@@ -1,0 +1,3 @@
+pub mod Opens
+pub mod Others
+pub mod Ends

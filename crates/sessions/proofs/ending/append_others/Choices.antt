@@ -1,0 +1,13 @@
+use mathlib.Core.List.{List}
+use Prim.Native.Nat.{ℕ, _+_, _-_, _*_, _≤_}
+use Rattle.bytes.specs.Numbers.{be32}
+use Rattle.bytes.specs.Writing.{Added}
+use Rattle.cells.specs.Layout.{sessionsIn}
+use Rattle.sessions.specs.Ending.{numbersBytes}
+use Rattle.sessions.proofs.Others.{Passed}
+use Rattle.sessions.proofs.ending.append_others.Given as given
+
+abbrev pub Inv-loop-i : given.InvT-loop-i
+Inv-loop-i l =
+    (done : List ℕ) × Passed (l .session .0) (sessionsIn (l .prelude)) done (be32 (l .prelude) 24 - l .i) (l .prelude) (28 + 8 * l .i)
+    × Added (l .entry .end) (l .entry .out) (numbersBytes done) (l .end) (l .out) × (l .end ≤ l .entry .end + 8 * l .i)

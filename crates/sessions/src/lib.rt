@@ -1,0 +1,3 @@
+// Sessions: opening one and ending one.
+pub mod ending;
+pub mod opening;

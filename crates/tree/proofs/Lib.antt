@@ -1,0 +1,9 @@
+pub mod Seeks
+pub mod Weighs
+pub mod Doings
+pub mod Written
+pub mod Makes
+pub mod Keeping
+pub mod Calls
+pub mod Looks
+pub mod Refused

@@ -1,0 +1,5 @@
+pub mod Answers
+pub mod Steps
+pub mod Making
+pub mod Laws
+pub mod Looking
