@@ -1,0 +1,2 @@
+-- Acts and calls in words.
+pub mod Acts

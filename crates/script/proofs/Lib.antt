@@ -1,0 +1,2 @@
+-- Which letters are taken, and which stay.
+pub mod Kept
