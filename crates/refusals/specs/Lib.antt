@@ -1,0 +1,1 @@
+-- The table is tested; it needs no definitions.

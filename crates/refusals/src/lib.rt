@@ -1,0 +1,3 @@
+// What the readers refuse, and by what: a table that is tested.
+#[cfg(test)]
+mod tests;

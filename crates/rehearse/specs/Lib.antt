@@ -1,0 +1,1 @@
+-- The program has no definitions of its own.
