@@ -12,7 +12,7 @@ use Rattle.std.specs.declared.option.Option.the-variants.{None, Some}
 use Rattle.std.proofs.shelf.Ways.{tells}
 use Rattle.std.proofs.shelf.Tests.{cond-both, cases-lt, cases-bool, true≢false, false≢true, or-cases, or-left, or-right, eqb-true, eq-eqb}
 use Rattle.runs.specs.Replicas.{Letter, Does, Says, Gives, Whole', House, there, gone, Scene, Seen, asked, gave, Waits, Said, Call', Beat, given, without, answeredOff, wasAsked, Goes, first, hears, isAsked, beats, falls, wakes, turned, withCall}
-use Rattle.runs.specs.Room.{LikeARoom}
+use Rattle.runs.specs.Room.{Open, Ready, Room, LikeARoom}
 use Rattle.agreement.specs.Content.{Service, Lawful, Proposal, limit, idOf, root, placeAt, roster}
 use Rattle.agreement.specs.Facts.{atFirst}
 use Rattle.agreement.specs.Log.{Event, draws, asks, makes, votes, pledges, At, world, Ok, Log, begins, goesOn}
@@ -302,6 +302,10 @@ module _ {sv : Service} (law : Lawful sv) (all : ℕ) where
       lastOk : {h : List (Event sv)} {f : Event sv} → Log all (f ∷ h) → Ok all h f
       lastOk (goesOn l o) = o
 
-pub likeARoom : (sv : Service) → Lawful sv → LikeARoom (sv .clerk) (code sv)
-likeARoom sv law all n one few most es s g =
+-- clients can't tell: for runs of any length
+pub inTheRoom : (sv : Service) → Lawful sv → (all n : ℕ) → all ≤ 7 → (es : List (Seen (sv .O) (sv .R))) (s : Scene (Mind sv) (Msg sv)) → Goes (code sv) all n es s → (t : sv .clerk .State) × (os : List (Open (sv .O))) × (rs : List (Ready (sv .R))) × Room (sv .clerk) es t os rs
+inTheRoom sv law all n few es s g =
     let (h, r, tr, t) = linear law all few g in let x = roomOf (sv .clerk) (sv .isRead) (law .reads) (t .trace) (λ _. 0) in (stateOf (sv .clerk) tr, x .os, x .rs, rw (t .seen) at (x .room))
+
+pub likeARoom : (sv : Service) → Lawful sv → LikeARoom (sv .clerk) (code sv)
+likeARoom sv law all n one few most es s g = inTheRoom sv law all n few es s g

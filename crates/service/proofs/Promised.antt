@@ -12,7 +12,7 @@ use Rattle.runs.proofs.Orders.{ordered, asked-once, asked-same, line-older, not
 use Rattle.promise.specs.Promise.{tree}
 use Rattle.promise.proofs.Refused.{refused-changes-nothing}
 use Rattle.agreement.specs.Machine.{Msg, Mind, code}
-use Rattle.agreement.proofs.Linear.{likeARoom}
+use Rattle.agreement.proofs.Linear.{inTheRoom}
 use Rattle.service.specs.Service.{calls}
 use Rattle.service.specs.Users.{RefusedKeeps, OneAfterTheOther, NeverBack, OneMaker}
 use mathlib.Core.Bool.{false}
@@ -28,8 +28,8 @@ refused-keeps room ds t l newer older d n k e is =
     (w .0, w .1, subst (Line (tree room core) (d ∷ older)) (w .3 ∙ same) (r .1))
 
 pub one-after-the-other : (room : ℕ) → OneAfterTheOther room
-one-after-the-other room all n some seven few es s g =
-    let r = likeARoom (calls room) (calls-lawful room) all n some seven few es s g in
+one-after-the-other room all n some seven es s g =
+    let r = inTheRoom (calls room) (calls-lawful room) all n seven es s g in
     let o = ordered (tree room core) es (r .0) (r .1) (r .2) (r .3) in
     let once : (k : ℕ) → doneOften k (o .deeds) + timesIn k (o .handed) ≤ 1 = λ k. omega (arith, o .once k, asked-once (code (calls room)) all n es s g k) in (
       r .0,
@@ -40,8 +40,8 @@ one-after-the-other room all n some seven few es s g =
     )
 
 pub never-back : (room : ℕ) → NeverBack room
-never-back room all n some seven few es s g xs ys e =
-    let r = one-after-the-other room all n some seven few es s g in
+never-back room all n some seven es s g xs ys e =
+    let r = one-after-the-other room all n some seven es s g in
     let o = r .1 in
     let w = o .realTime xs ys e in
     let u = line-older (tree room core) (o .deeds) (w .newer) (w .older) (r .0) (o .line) (w .split) in (
@@ -68,8 +68,8 @@ maker room all n es s g t o p i k v m a =
     (w .given i k (Done (p ∷ [])) a)
 
 pub one-maker : (room : ℕ) → OneMaker room
-one-maker room all n some seven few es s g p i j k q v w mi mj nd gi gj =
-    let r = one-after-the-other room all n some seven few es s g in
+one-maker room all n some seven es s g p i j k q v w mi mj nd gi gj =
+    let r = one-after-the-other room all n some seven es s g in
     let o = r .1 in
     let d = maker room all n es s g (r .0) o p i k v mi gi in
     let e = maker room all n es s g (r .0) o p j q w mj gj in

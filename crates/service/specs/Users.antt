@@ -4,7 +4,7 @@ use mathlib.Core.Path.{_≡_}
 use mathlib.Core.Logic.{_⊎_}
 use mathlib.Core.Bool.{false}
 use mathlib.Core.List.{List, [], _∷_, _++_, List·Memᴰ}
-use Prim.Native.Nat.{ℕ, _<_, _≤_}
+use Prim.Native.Nat.{ℕ, _≤_}
 use Rattle.model.specs.Tree.{Path, State, Expect, Make, Drop, Call, Do, Reply, No, Done, core}
 use Rattle.runs.specs.Replicas.{Code, Scene, Seen, asked, gave, Goes}
 use Rattle.runs.specs.Order.{Deed, Line, Ordered, doneOften, askedOften}
@@ -12,9 +12,9 @@ use Rattle.promise.specs.Promise.{tree}
 use Rattle.agreement.specs.Machine.{Msg, Mind, code}
 use Rattle.service.specs.Service.{calls}
 
--- whatever clients see in a run of the replicas
+-- whatever clients see in a run of the replicas, however long
 abbrev pub InEveryRun : ℕ → (List (Seen Call Reply) → Type 0) → Type 0
-InEveryRun room P = (all n : ℕ) → 1 ≤ all → all ≤ 7 → n < 72057594037927936 → (es : List (Seen Call Reply)) (s : Scene (Mind (calls room)) (Msg (calls room))) → Goes (code (calls room)) all n es s → P es
+InEveryRun room P = (all n : ℕ) → 1 ≤ all → all ≤ 7 → (es : List (Seen Call Reply)) (s : Scene (Mind (calls room)) (Msg (calls room))) → Goes (code (calls room)) all n es s → P es
 
 -- in a line of calls that were done: one that was refused left the tree as it was
 abbrev pub RefusedKeeps : ℕ → List (Deed Call Reply) → Type 0
