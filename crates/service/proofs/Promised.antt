@@ -53,6 +53,7 @@ never-back room all n some seven es s g xs ys e =
       u .1,
       (λ i k a m. ⊎-elim (λ d. inr (d .0, d .1, d .3, d .4)) inl (w .given i k a m)),
       (λ k z. not-done ys (w .older) k (w .asked') z),
+      (λ i k a m. ⊎-elim (λ d. inr (d .0, subst (List·Memᴰ (d .0)) (w .split) (d .1), d .3, d .4)) (λ h. inl (h .0)) (o .settled i k a m)),
     )
 
 -- an answer that tells a making, as the call that was done

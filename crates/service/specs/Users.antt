@@ -24,12 +24,13 @@ RefusedKeeps room ds = (newer older : List (Deed Call Reply)) (d : Deed Call Rep
 abbrev pub OneAfterTheOther : ℕ → Type 0
 OneAfterTheOther room = InEveryRun room (λ es. (t : State) × (o : Ordered (tree room core) es t) × ((k : ℕ) → doneOften k (o .deeds) ≤ 1) × ((i k : ℕ) → List·Memᴰ (gave i k (No 0 11)) es → doneOften k (o .deeds) ≡ 0) × RefusedKeeps room (o .deeds))
 
--- NEVER BACK. Who looks after an answer was seen, at whichever replica, is answered by a tree that comes from the one of that answer by calls that were done since: what was done up to the first is the older part of all that was done, and a call not yet asked by then is none of it
+-- NEVER BACK. Who looks after an answer was seen, at whichever replica, is answered by a tree that comes from the one of that answer by calls that were done since: what was done up to the first is the older part of all that was done, a call not yet asked by then is none of it, and every answer, also of later, is of a call in the whole: so a later call's answer is of the newer part
 abbrev pub NeverBack : ℕ → Type 0
 NeverBack room =
     InEveryRun room (λ es. (xs ys : List (Seen Call Reply)) → es ≡ xs ++ ys →
     (newer older : List (Deed Call Reply)) × (t u : State) × Line (tree room core) (newer ++ older) t × Line (tree room core) older u ×
-    ((i k : ℕ) (r : Reply) → List·Memᴰ (gave i k r) ys → (r ≡ No 0 11) ⊎ ((d : Deed Call Reply) × List·Memᴰ d older × (d .number ≡ k) × (d .reply ≡ r))) × ((k : ℕ) → askedOften k ys ≡ 0 → doneOften k older ≡ 0))
+    ((i k : ℕ) (r : Reply) → List·Memᴰ (gave i k r) ys → (r ≡ No 0 11) ⊎ ((d : Deed Call Reply) × List·Memᴰ d older × (d .number ≡ k) × (d .reply ≡ r))) × ((k : ℕ) → askedOften k ys ≡ 0 → doneOften k older ≡ 0) ×
+    ((i k : ℕ) (r : Reply) → List·Memᴰ (gave i k r) es → (r ≡ No 0 11) ⊎ ((d : Deed Call Reply) × List·Memᴰ d (newer ++ older) × (d .number ≡ k) × (d .reply ≡ r))))
 
 -- ONE MAKER. Of several that make the same path, while nobody asks to drop it, one at most is told that it was made
 abbrev pub OneMaker : ℕ → Type 0
