@@ -12,8 +12,8 @@ use Rattle.doing.proofs.Keeping.{held_first, ready, fits_stays}
 use Rattle.doing.proofs.Calls.{answered, one_act, answer_is, answer_made}
 use Rattle.doing.proofs.do_one.Goals as goal
 
-pub do-act-requires : goal.do-act-requires
-do-act-requires c =
+pub do_act-requires : goal.do_act-requires
+do_act-requires c =
     let s = state_of c.args.tree.bytes.now c.args.tree.places.now in
     record {
       holds = c.requires.holds;
@@ -27,10 +27,10 @@ pub returns : goal.returns
 returns c =
     let s = state_of c.args.tree.bytes.now c.args.tree.places.now in
     let a = act_of c.args.act in
-    let answer = answer_is (made_by a) c.do-act.result c.do-act.new.out c.do-act.new.places s ∙
-    ap (answered s) (c.do-act.ensures.step ∙ ap (λ (n : ℕ). counting (n + 1) (weighed c.args.room s (acts a s))) c.changes-of.ensures) ∙ sym (one_act c.args.room a s) in
+    let answer = answer_is (made_by a) c.do_act.result c.do_act.new.out c.do_act.new.places s ∙
+    ap (answered s) (c.do_act.ensures.step ∙ ap (λ (n : ℕ). counting (n + 1) (weighed c.args.room s (acts a s))) c.changes_of.ensures) ∙ sym (one_act c.args.room a s) in
     record {
       answer = answer;
-      drafts = c.do-act.ensures.drafts;
-      fits = answer_made c.args.room (made_by a) c.do-act.result _ _ s _ (fits_stays c.args.room (Do (a ∷ [])) s c.requires.calm c.requires.fits) answer;
+      drafts = c.do_act.ensures.drafts;
+      fits = answer_made c.args.room (made_by a) c.do_act.result _ _ s _ (fits_stays c.args.room (Do (a ∷ [])) s c.requires.calm c.requires.fits) answer;
     }

@@ -17,9 +17,9 @@ returns-then-n-eq0 c =
     let mem = c.args.tree.bytes.now in
     let ps = c.args.tree.places.now in
     let path = c.args.path.now in
-    let n = c.last-name-n.result in
+    let n = c.last_name-n.result in
     let long = length-take-le n path (omega arith) in
-    let top : Tree.above (path_of path) ≡ [] = sym c.last-name-n.ensures.above ∙ top_none (take n path) (omega arith) in
+    let top : Tree.above (path_of path) ≡ [] = sym c.last_name-n.ensures.above ∙ top_none (take n path) (omega arith) in
     record {
       above = (
         orphan_top (path_of path) (state_of mem ps) top,
@@ -34,15 +34,15 @@ returns-in-Some c =
     let mem = c.args.tree.bytes.now in
     let ps = c.args.tree.places.now in
     let path = c.args.path.now in
-    let n = c.last-name-n.result in
-    let is : path_of (take (n - 0) path) ≡ Tree.above (path_of path) = ap (λ (k : ℕ). path_of (take k path)) (sub-zero n) ∙ c.last-name-n.ensures.above in
+    let n = c.last_name-n.result in
+    let is : path_of (take (n - 0) path) ≡ Tree.above (path_of path) = ap (λ (k : ℕ). path_of (take k path)) (sub-zero n) ∙ c.last_name-n.ensures.above in
     let first = subst (λ (q : Path). First (at q) (entries_of mem ps) c.in-Some.i) is c.in-Some.ensures.found in
-    let some_names = top_some (take n path) c.last-name-n.ensures.spells (omega (arith, length-take-le n path (omega arith))) in
+    let some_names = top_some (take n path) c.last_name-n.ensures.spells (omega (arith, length-take-le n path (omega arith))) in
     record {
       above = (
         orphan_found (path_of path) (state_of mem ps) (some_first (at (Tree.above (path_of path))) (entries_of mem ps) c.in-Some.i first),
         first,
-        sym (ap not (ap none (sym c.last-name-n.ensures.above) ∙ some_names)),
+        sym (ap not (ap none (sym c.last_name-n.ensures.above) ∙ some_names)),
       );
       within = c.in-Some.ensures.within;
     }
@@ -52,12 +52,12 @@ returns-in-None c =
     let mem = c.args.tree.bytes.now in
     let ps = c.args.tree.places.now in
     let path = c.args.path.now in
-    let n = c.last-name-n.result in
-    let is : path_of (take (n - 0) path) ≡ Tree.above (path_of path) = ap (λ (k : ℕ). path_of (take k path)) (sub-zero n) ∙ c.last-name-n.ensures.above in
-    let some_names = top_some (take n path) c.last-name-n.ensures.spells (omega (arith, length-take-le n path (omega arith))) in
+    let n = c.last_name-n.result in
+    let is : path_of (take (n - 0) path) ≡ Tree.above (path_of path) = ap (λ (k : ℕ). path_of (take k path)) (sub-zero n) ∙ c.last_name-n.ensures.above in
+    let some_names = top_some (take n path) c.last_name-n.ensures.spells (omega (arith, length-take-le n path (omega arith))) in
     record {
       above = (
-        orphan_missing (path_of path) (state_of mem ps) (ap none (sym c.last-name-n.ensures.above) ∙ some_names)
+        orphan_missing (path_of path) (state_of mem ps) (ap none (sym c.last_name-n.ensures.above) ∙ some_names)
             (subst (λ (q : Path). some (at q) (entries_of mem ps) ≡ false) is c.in-None.ensures.found),
         refl,
       );

@@ -19,9 +19,9 @@ returns-in-None c =
     let top = not-false _ (sym c.requires.top ∙ ap is_some c.in-None.is) in
     let found = subst (Found (at (Tree.above p)) s.entries) c.in-None.is c.requires.above in
     record {
-      state = written k _ (s.top + 1) (prelude_of c.args.tree.bytes.now c.args.tree.places.now) (next_push c.copy-all-size.ensures.next c.push-entry.ensures) fits (omega (arith, c.requires.tops, c.top-of.ensures))
-          (ap (λ (n : ℕ). n + 1) c.top-of.ensures) ∙ made_top p s k e top found;
-      drafts = c.push-entry.ensures.drafts;
+      state = written k _ (s.top + 1) (prelude_of c.args.tree.bytes.now c.args.tree.places.now) (next_push c.copy_all-size.ensures.next c.push_entry.ensures) fits (omega (arith, c.requires.tops, c.top_of.ensures))
+          (ap (λ (n : ℕ). n + 1) c.top_of.ensures) ∙ made_top p s k e top found;
+      drafts = c.push_entry.ensures.drafts;
     }
 
 pub returns-in-Some : goal.returns-in-Some
@@ -34,7 +34,7 @@ returns-in-Some c =
     let under = not-true _ (sym c.requires.top ∙ ap is_some c.in-Some.is) in
     let first = subst (Found (at (Tree.above p)) s.entries) c.in-Some.is c.requires.above in
     record {
-      state = written k s.top s.top (prelude_of c.args.tree.bytes.now c.args.tree.places.now) (next_push c.count-kid-size.ensures.next c.push-entry-in-Some.ensures) fits (omega (arith, c.requires.tops)) refl ∙
+      state = written k s.top s.top (prelude_of c.args.tree.bytes.now c.args.tree.places.now) (next_push c.count_kid-size.ensures.next c.push_entry-in-Some.ensures) fits (omega (arith, c.requires.tops)) refl ∙
           made_under p s k e c.in-Some.i (entry_of []) under first;
-      drafts = c.push-entry-in-Some.ensures.drafts;
+      drafts = c.push_entry-in-Some.ensures.drafts;
     }

@@ -13,11 +13,11 @@ use Rattle.acts.proofs.Readings.{count_is}
 use Rattle.acts.proofs.Ends.{large, does_large, does_none, none_in, ran_answer, ran_fits}
 use Rattle.acts.proofs.several.do_acts.Goals as goal
 
-pub returns-then-too-large : goal.returns-then-too-large
-returns-then-too-large c = record { answer = does_large c.args.room _ _ (sym c.if-too-large.ensures); stands = tt; fits = tt }
+pub returns-then-too_large : goal.returns-then-too_large
+returns-then-too_large c = record { answer = does_large c.args.room _ _ (sym c.if-too_large.ensures); stands = tt; fits = tt }
 
-pub copy-all-size-requires : goal.copy-all-size-requires
-copy-all-size-requires c =
+pub copy_all-size-requires : goal.copy_all-size-requires
+copy_all-size-requires c =
     let room = space c.args.tree.bytes.now c.args.tree.places.now c.requires.holds c.requires.fits.few in
     record { holds = c.requires.holds; bytes = omega (arith, c.requires.left.bytes, c.requires.fits.weighs); small = c.requires.left.small; words = omega (arith, c.requires.left.words, c.requires.fits.weighs) }
 
@@ -25,16 +25,16 @@ pub returns-then-count-eq0 : goal.returns-then-count-eq0
 returns-then-count-eq0 c =
     let s = state_of c.args.tree.bytes.now c.args.tree.places.now in
     let all = acts_in c.args.count c.args.acts.now in
-    let next = c.copy-all-size.ensures.next in
+    let next = c.copy_all-size.ensures.next in
     let answer = ap (λ (t : State). record { reply = Done (made_all all); state = t })
-    (written (c.changes-of.result.0 + 1) _ _ _ next (omega (arith, c.changes-of.ensures, c.requires.calm)) (omega (arith, c.top-of.ensures, c.requires.fits.counts.top, c.requires.calm)) c.top-of.ensures ∙ ap (λ (n : ℕ). at_count (n + 1) s) c.changes-of.ensures)
+    (written (c.changes_of.result.0 + 1) _ _ _ next (omega (arith, c.changes_of.ensures, c.requires.calm)) (omega (arith, c.top_of.ensures, c.requires.fits.counts.top, c.requires.calm)) c.top_of.ensures ∙ ap (λ (n : ℕ). at_count (n + 1) s) c.changes_of.ensures)
     ∙ does_none c.args.room all s (none_in c.args.count c.args.acts.now c.if-count-eq0.true) in
     record { answer = answer; stands = next.drafts; fits = subst (λ (y : Out). Fits c.args.room y.state) (sym answer) (fits_stays c.args.room (Do all) s c.requires.calm c.requires.fits) }
 
-pub run-acts-requires : goal.run-acts-requires
-run-acts-requires c =
+pub run_acts-requires : goal.run_acts-requires
+run_acts-requires c =
     let all = acts_in c.args.count c.args.acts.now in
-    let small = or_parts (ltb 64 (length all)) (ltb 262144 (values_in all)) (sym c.if-too-large.ensures) in
+    let small = or_parts (ltb 64 (length all)) (ltb 262144 (values_in all)) (sym c.if-too_large.ensures) in
     record {
       holds = c.requires.holds;
       fits = c.requires.fits;
@@ -51,5 +51,5 @@ pub returns : goal.returns
 returns c =
     let s = state_of c.args.tree.bytes.now c.args.tree.places.now in
     let all = acts_in c.args.count c.args.acts.now in
-    let answer = ran_answer c.args.room all _ _ _ _ _ _ c.run-acts.result (sym c.if-too-large.ensures) c.run-acts.ensures.ran in
-    record { answer = answer; stands = c.run-acts.ensures.stands; fits = ran_fits c.args.room all _ _ _ _ _ _ c.run-acts.result _ (fits_stays c.args.room (Do all) s c.requires.calm c.requires.fits) answer }
+    let answer = ran_answer c.args.room all _ _ _ _ _ _ c.run_acts.result (sym c.if-too_large.ensures) c.run_acts.ensures.ran in
+    record { answer = answer; stands = c.run_acts.ensures.stands; fits = ran_fits c.args.room all _ _ _ _ _ _ c.run_acts.result _ (fits_stays c.args.room (Do all) s c.requires.calm c.requires.fits) answer }

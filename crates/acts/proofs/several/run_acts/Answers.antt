@@ -12,11 +12,11 @@ use Rattle.acts.proofs.several.run_acts.Goals.{else-acts-test, then-acts-test+in
 pub acts-init : goal.acts-init
 acts-init c = (refl, acting_first _ _ _ _ c.requires.acts c.requires.plain c.requires.fits c.requires.some, c.requires.holds)
 
-pub returns-in-default : goal.returns-in-default
-returns-in-default c = absurd (acting_stop _ _ _ _ _ _ _ c.acts.invariant.1 c.acts-test.true c.in-default.ensures)
+pub returns-in_default : goal.returns-in_default
+returns-in_default c = absurd (acting_stop _ _ _ _ _ _ _ c.acts.invariant.1 c.acts-test.true c.in_default.ensures)
 
-pub do-next-requires : goal.do-next-requires
-do-next-requires c =
+pub do_next-requires : goal.do_next-requires
+do_next-requires c =
     let act = c.in-Some.read.act in
     record {
       stands = c.acts.invariant.2;
@@ -32,8 +32,8 @@ acts-preserved c =
     let s = state_of c.args.tree.bytes.now c.args.tree.places.now in
     let count : c.if-n-count.changes.0 ≡ _ =
     elim c.if-n-count.branch [
-      | then-n-count w ↦ count_last c.acts.n c.args.count s.changes c.if-n-count.changes.0 w.if-n-count.true (ap (λ x. x.0) w.changes-is ∙ ap (λ (n : ℕ). n + 1) c.changes-of-before.ensures)
-      | else-n-count w ↦ count_before c.acts.n c.args.count s.changes c.if-n-count.changes.0 c.acts-test.true w.if-n-count.false (ap (λ x. x.0) w.changes-is ∙ c.changes-of-before.ensures)
+      | then-n-count w ↦ count_last c.acts.n c.args.count s.changes c.if-n-count.changes.0 w.if-n-count.true (ap (λ x. x.0) w.changes-is ∙ ap (λ (n : ℕ). n + 1) c.changes_of-before.ensures)
+      | else-n-count w ↦ count_before c.acts.n c.args.count s.changes c.if-n-count.changes.0 c.acts-test.true w.if-n-count.false (ap (λ x. x.0) w.changes-is ∙ c.changes_of-before.ensures)
     ] in (
       c.acts.invariant.0,
       acting_more _ _ s _ _ _ _ c.acts.invariant.1 c.acts-test.true _ _ c.in-Some.ensures.0 c.if-n-count.changes.0 _ c.in-Ok.ensures.step count,

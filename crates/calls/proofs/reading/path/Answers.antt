@@ -5,17 +5,17 @@ use Rattle.calls.specs.Format.{and_then, names_at}
 use Rattle.calls.proofs.Back.{names_part, cut_before}
 use Rattle.calls.proofs.reading.path.Goals as goal
 
-pub overflow-sub-all : goal.overflow-sub-all
-overflow-sub-all c =
-    let p = names_part c.in-Some.count c.in-Some.all.now c.in-Some-past-names.rest.now (sym c.in-Some-past-names.ensures) in
-    omega (arith, ap length p.2, length-append (path_bytes p.0) c.in-Some-past-names.rest.now)
+pub overflow_sub-all : goal.overflow_sub-all
+overflow_sub-all c =
+    let p = names_part c.in-Some.count c.in-Some.all.now c.in-Some-past_names.rest.now (sym c.in-Some-past_names.ensures) in
+    omega (arith, ap length p.2, length-append (path_bytes p.0) c.in-Some-past_names.rest.now)
 
 pub returns : goal.returns
 returns c =
-    let p = names_part c.in-Some.count c.in-Some.all.now c.in-Some-past-names.rest.now (sym c.in-Some-past-names.ensures) in
-    let cuts = cut_before c.in-Some.all.now (path_bytes p.0) c.in-Some-past-names.rest.now p.2 in
-    let names = c.split-at.ensures.front ∙ cuts.0 in
-    let behind = c.split-at.ensures.back ∙ cuts.1 in (
-      ap (λ (o : Option (ℕ × List ℕ)). and_then o (λ k. names_at k.0 k.1)) (sym c.in-Some.ensures) ∙ p.1 ∙ (λ i. Some (sym (path_is c.split-at.result.0.now p.0 names) i, sym behind i)),
-      spells_is c.split-at.result.0.now p.0 names,
+    let p = names_part c.in-Some.count c.in-Some.all.now c.in-Some-past_names.rest.now (sym c.in-Some-past_names.ensures) in
+    let cuts = cut_before c.in-Some.all.now (path_bytes p.0) c.in-Some-past_names.rest.now p.2 in
+    let names = c.split_at.ensures.front ∙ cuts.0 in
+    let behind = c.split_at.ensures.back ∙ cuts.1 in (
+      ap (λ (o : Option (ℕ × List ℕ)). and_then o (λ k. names_at k.0 k.1)) (sym c.in-Some.ensures) ∙ p.1 ∙ (λ i. Some (sym (path_is c.split_at.result.0.now p.0 names) i, sym behind i)),
+      spells_is c.split_at.result.0.now p.0 names,
     )

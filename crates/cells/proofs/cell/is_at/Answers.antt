@@ -4,4 +4,4 @@ use Rattle.cells.proofs.cell.is_at.Goals as goal
 use Rattle.std.proofs.lemmas.Bool.Decides.{Decides-eqb}
 
 pub returns : goal.returns
-returns c = at_cell _ _ _ _ c.read-u32-len.ensures c.requires.good c.requires.spells (slice_eq-Decides Decides-eqb _ _ _ c.eq.ensures)
+returns c = at_cell _ _ _ _ c.read_u32-len.ensures c.requires.good c.requires.spells (slice_eq-Decides Decides-eqb _ _ _ c.eq.ensures)

@@ -7,10 +7,10 @@ use Rattle.cells.proofs.cell.path_in.Goals as goal
 
 pub returns : goal.returns
 returns c =
-    let value = ap (λ n. between 48 (48 + n) c.args.cell.now) c.read-u32-n.ensures in
+    let value = ap (λ n. between 48 (48 + n) c.args.cell.now) c.read_u32-n.ensures in
     record {
       value = value;
-      len = length-between c.args.cell.now 48 (48 + c.read-u32-n.result) (omega arith) ∙ omega arith;
+      len = length-between c.args.cell.now 48 (48 + c.read_u32-n.result) (omega arith) ∙ omega arith;
       spells = subst Spells (sym value) c.requires.spells;
       ok = ap (λ bs. path_ok (path_of bs)) value ∙ c.requires.names;
     }

@@ -5,4 +5,4 @@ use Rattle.cells.proofs.cell.value_in.Goals as goal
 
 pub returns : goal.returns
 unfolding entry_of
-returns c = take_rest c.args.cell.now (48 + c.read-u32-path.result) ∙ ap (λ n. drop (48 + n) c.args.cell.now) c.read-u32-path.ensures
+returns c = take_rest c.args.cell.now (48 + c.read_u32-path.result) ∙ ap (λ n. drop (48 + n) c.args.cell.now) c.read_u32-path.ensures

@@ -9,21 +9,21 @@ use Rattle.cells.proofs.held.find_at.Goals as goal
 pub loop-i-init : goal.loop-i-init
 loop-i-init c = some_none _ (entries_of c.args.tree.bytes.now c.args.tree.places.now)
 
-pub returns-then-is-at : goal.returns-then-is-at
-returns-then-is-at c = record {
+pub returns-then-is_at : goal.returns-then-is_at
+returns-then-is_at c = record {
   found = record {
     within = omega (arith, length_entries c.args.tree.bytes.now c.args.tree.places.now);
     before = c.loop-i.invariant;
-    here = λ d. ap (at (path_of c.args.path.now)) (c.cell-at.ensures.entry d) ∙ sym c.if-is-at.ensures;
+    here = λ d. ap (at (path_of c.args.path.now)) (c.cell_at.ensures.entry d) ∙ sym c.if-is_at.ensures;
   };
   within = omega arith;
 }
 
 pub loop-i-preserved : goal.loop-i-preserved
 loop-i-preserved c =
-    let cell = entry_of c.cell-at.result.now in
+    let cell = entry_of c.cell_at.result.now in
     some_more _ _ c.loop-i.i cell (omega (arith, length_entries c.args.tree.bytes.now c.args.tree.places.now)) c.loop-i.invariant
-    (ap (at (path_of c.args.path.now)) (c.cell-at.ensures.entry cell) ∙ sym c.if-is-at.ensures)
+    (ap (at (path_of c.args.path.now)) (c.cell_at.ensures.entry cell) ∙ sym c.if-is_at.ensures)
 
 pub returns : goal.returns
 returns c = record {

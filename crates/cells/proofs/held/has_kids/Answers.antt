@@ -9,18 +9,18 @@ use Rattle.cells.proofs.held.has_kids.Goals as goal
 pub loop-i-init : goal.loop-i-init
 loop-i-init c = some_none _ (entries_of c.args.tree.bytes.now c.args.tree.places.now)
 
-pub returns-then-is-kid : goal.returns-then-is-kid
-returns-then-is-kid c =
-    let cell = entry_of c.cell-at.result.now in
+pub returns-then-is_kid : goal.returns-then-is_kid
+returns-then-is_kid c =
+    let cell = entry_of c.cell_at.result.now in
     sym (some_here (is_kid (path_of c.args.path.now)) (entries_of c.args.tree.bytes.now c.args.tree.places.now) c.loop-i.i cell
     (omega (arith, length_entries c.args.tree.bytes.now c.args.tree.places.now))
-    (ap (is_kid (path_of c.args.path.now)) (c.cell-at.ensures.entry cell) ∙ sym c.if-is-kid.ensures))
+    (ap (is_kid (path_of c.args.path.now)) (c.cell_at.ensures.entry cell) ∙ sym c.if-is_kid.ensures))
 
 pub loop-i-preserved : goal.loop-i-preserved
 loop-i-preserved c =
-    let cell = entry_of c.cell-at.result.now in
+    let cell = entry_of c.cell_at.result.now in
     some_more _ _ c.loop-i.i cell (omega (arith, length_entries c.args.tree.bytes.now c.args.tree.places.now)) c.loop-i.invariant
-    (ap (is_kid (path_of c.args.path.now)) (c.cell-at.ensures.entry cell) ∙ sym c.if-is-kid.ensures)
+    (ap (is_kid (path_of c.args.path.now)) (c.cell_at.ensures.entry cell) ∙ sym c.if-is_kid.ensures)
 
 pub returns : goal.returns
 returns c = sym (some_all _ (entries_of c.args.tree.bytes.now c.args.tree.places.now) c.loop-i.i (omega (arith, length_entries c.args.tree.bytes.now c.args.tree.places.now)) c.loop-i.invariant)

@@ -7,4 +7,4 @@ use Rattle.cells.proofs.held.session_count.Goals as goal
 pub returns : goal.returns
 returns c =
     let pre = prelude_of c.args.tree.bytes.now c.args.tree.places.now in
-    c.read-u32.ensures ∙ ap (λ (bs : List ℕ). be32 bs 24) c.prelude-of.ensures.value ∙ sym (length_numbers (be32 pre 24) pre 28)
+    c.read_u32.ensures ∙ ap (λ (bs : List ℕ). be32 bs 24) c.prelude_of.ensures.value ∙ sym (length_numbers (be32 pre 24) pre 28)

@@ -11,10 +11,10 @@ pub loop-i-preserved : goal.loop-i-preserved
 loop-i-preserved c =
     let es = entries_of c.args.tree.bytes.now c.args.tree.places.now in
     let many = length_entries c.args.tree.bytes.now c.args.tree.places.now in
-    let e = entry_of c.cell-at.result.now in
-    let more = weight_more es c.loop-i.i e (omega arith) (c.cell-at.ensures.entry e) in
-    let long = ap length c.value-in-value.ensures in
-    let fits = value_long c.cell-at.result.now c.cell-at.ensures.good in
+    let e = entry_of c.cell_at.result.now in
+    let more = weight_more es c.loop-i.i e (omega arith) (c.cell_at.ensures.entry e) in
+    let long = ap length c.value_in-value.ensures in
+    let fits = value_long c.cell_at.result.now c.cell_at.ensures.good in
     (omega arith, omega arith)
 
 pub returns : goal.returns

@@ -7,8 +7,8 @@ use Rattle.cells.proofs.Pushes.{last_place, climb, length_span}
 use Rattle.drafts.proofs.Grows.{next, next_as}
 use Rattle.changing.proofs.acts.copy_all.Goals as goal
 
-pub push-cells-requires : goal.push-cells-requires
-push-cells-requires c =
+pub push_cells-requires : goal.push_cells-requires
+push_cells-requires c =
     let ps = c.args.tree.places.now in
     let end = sym (last_place ps) ∙ c.requires.holds.ends in
     let some = c.requires.holds.some in
@@ -25,7 +25,7 @@ returns c =
     let some = c.requires.holds.some in
     let end = sym (last_place ps) ∙ c.requires.holds.ends in
     let begun = c.start-begun.ensures.begun in
-    let grown = c.push-cells.ensures in
+    let grown = c.push_cells.ensures in
     let span = length_span mem ps 0 n (omega arith) in
     record {
       next = next_as _ _ (ap (λ (k : ℕ). take k es) (sub-zero n) ∙ take_all n es (omega arith)) (next refl begun grown);

@@ -17,18 +17,18 @@ returns-in-Err c =
     let s = state_of c.args.tree.bytes.now c.args.tree.places.now in
     record { step = refuse c.args.changes.0 c.args.room s _ _ (drop_is _ _ s ∙ c.in-Err.ensures.sought _); drafts = tt }
 
-pub returns-then-has-kids : goal.returns-then-has-kids
-returns-then-has-kids c =
+pub returns-then-has_kids : goal.returns-then-has_kids
+returns-then-has_kids c =
     let s = state_of c.args.tree.bytes.now c.args.tree.places.now in
-    record { step = refuse c.args.changes.0 c.args.room s _ 5 (drop_is _ _ s ∙ c.in-Ok.ensures.sought.0 _ ∙ with_kids _ s _ (sym c.if-has-kids.ensures)); drafts = tt }
+    record { step = refuse c.args.changes.0 c.args.room s _ 5 (drop_is _ _ s ∙ c.in-Ok.ensures.sought.0 _ ∙ with_kids _ s _ (sym c.if-has_kids.ensures)); drafts = tt }
 
 pub start-begun-requires : goal.start-begun-requires
 start-begun-requires c =
     let room = space c.args.tree.bytes.now c.args.tree.places.now c.requires.holds c.requires.ready.few in
     record { holds = c.requires.holds; room = omega arith; small = omega arith; more = omega arith }
 
-pub push-others-requires : goal.push-others-requires
-push-others-requires c =
+pub push_others-requires : goal.push_others-requires
+push_others-requires c =
     let room = space c.args.tree.bytes.now c.args.tree.places.now c.requires.holds c.requires.ready.few in
     let begun = c.start-begun.ensures.begun in
     record { holds = c.requires.holds; spells = c.requires.spells; drafts = begun.drafts; room = omega arith; small = omega arith; more = omega arith }
@@ -41,8 +41,8 @@ returns c =
     let fits : c.args.changes.0 < 18446744073709551616 = search rules in
     let light = keep_weighs (λ (e : Entry). not (at p e)) s.entries in
     record {
-      step = done c.args.changes.0 c.args.room s _ [] t (drop_is _ _ s ∙ c.in-Ok.ensures.sought.0 _ ∙ without_kids _ s _ (sym c.if-has-kids.ensures)) _
+      step = done c.args.changes.0 c.args.room s _ [] t (drop_is _ _ s ∙ c.in-Ok.ensures.sought.0 _ ∙ without_kids _ s _ (sym c.if-has_kids.ensures)) _
           (not_over c.args.room (weight s) (weight t) (omega arith))
-          (written c.args.changes.0 _ _ _ (next refl c.start-begun.ensures.begun c.push-others.ensures) fits (omega arith) c.top-of.ensures);
-      drafts = c.push-others.ensures.drafts;
+          (written c.args.changes.0 _ _ _ (next refl c.start-begun.ensures.begun c.push_others.ensures) fits (omega arith) c.top_of.ensures);
+      drafts = c.push_others.ensures.drafts;
     }

@@ -7,5 +7,5 @@ pub returns : goal.returns
 unfolding cell_bytes
 returns c = record {
   end = search rules;
-  added = and_then (and_then c.append-head-a.ensures.added c.append-bytes-b.ensures.added) c.append-bytes.ensures.added;
+  added = and_then (and_then c.append_head-a.ensures.added c.append_bytes-b.ensures.added) c.append_bytes.ensures.added;
 }

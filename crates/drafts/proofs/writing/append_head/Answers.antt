@@ -7,6 +7,6 @@ pub returns : goal.returns
 unfolding head_bytes
 returns c = record {
   end = search rules;
-  added = and_then (and_then (and_then (and_then (and_then (and_then c.append-u32-a.ensures.added c.append-u32-b.ensures.added) c.append-u64-c.ensures.added) c.append-u64-d.ensures.added)
-      c.append-u64-e.ensures.added) c.append-u64-f.ensures.added) c.append-u64.ensures.added;
+  added = and_then (and_then (and_then (and_then (and_then (and_then c.append_u32-a.ensures.added c.append_u32-b.ensures.added) c.append_u64-c.ensures.added) c.append_u64-d.ensures.added)
+      c.append_u64-e.ensures.added) c.append_u64-f.ensures.added) c.append_u64.ensures.added;
 }

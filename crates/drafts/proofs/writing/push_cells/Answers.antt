@@ -10,25 +10,25 @@ use Rattle.drafts.proofs.writing.push_cells.Goals as goal
 pub loop-i-init : goal.loop-i-init
 loop-i-init c = grown_as _ _ 0 _ (sym (between_none (entries_of c.args.tree.bytes.now c.args.tree.places.now) c.args.from)) (omega arith) (grown_none _ _ _ c.requires.drafts)
 
-pub push-cell-next-requires : goal.push-cell-next-requires
-push-cell-next-requires c =
+pub push_cell-next-requires : goal.push_cell-next-requires
+push_cell-next-requires c =
     let es = entries_of c.args.tree.bytes.now c.args.tree.places.now in
     let many = length_entries c.args.tree.bytes.now c.args.tree.places.now in
     let count = length-between es c.args.from c.loop-i.i (omega arith) in
     let low = climb _ _ c.requires.holds c.args.from c.loop-i.i (omega arith) (omega arith) in
     let high = climb _ _ c.requires.holds (c.loop-i.i + 1) c.args.to (omega arith) (omega arith) in
-    record { drafts = c.loop-i.invariant.drafts; room = omega arith; small = omega arith; more = omega arith; good = c.cell-at.ensures.good }
+    record { drafts = c.loop-i.invariant.drafts; room = omega arith; small = omega arith; more = omega arith; good = c.cell_at.ensures.good }
 
 pub loop-i-preserved : goal.loop-i-preserved
 loop-i-preserved c =
     let es = entries_of c.args.tree.bytes.now c.args.tree.places.now in
-    let e = entry_of c.cell-at.result.now in
+    let e = entry_of c.cell_at.result.now in
     let many = length_entries c.args.tree.bytes.now c.args.tree.places.now in
     let low = climb _ _ c.requires.holds c.args.from c.loop-i.i (omega arith) (omega arith) in
     grown_as _ _ _ _
-    (ap (λ x. between c.args.from c.loop-i.i es ++ x ∷ []) (sym (c.cell-at.ensures.entry e)) ∙ sym (between_more es c.args.from c.loop-i.i e (omega arith) (omega arith)))
+    (ap (λ x. between c.args.from c.loop-i.i es ++ x ∷ []) (sym (c.cell_at.ensures.entry e)) ∙ sym (between_more es c.args.from c.loop-i.i e (omega arith) (omega arith)))
     (omega arith)
-    (grown_then c.loop-i.invariant c.push-cell-next.ensures)
+    (grown_then c.loop-i.invariant c.push_cell-next.ensures)
 
 pub returns : goal.returns
 returns c =

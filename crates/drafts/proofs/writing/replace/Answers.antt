@@ -5,24 +5,24 @@ use Rattle.cells.proofs.Pushes.{spans, length_span}
 use Rattle.drafts.proofs.Grows.{grown_then, grown_as, around}
 use Rattle.drafts.proofs.writing.replace.Goals as goal
 
-pub push-cells-before-requires : goal.push-cells-before-requires
-push-cells-before-requires c =
+pub push_cells-before-requires : goal.push_cells-before-requires
+push_cells-before-requires c =
     let at = spans _ _ _ c.requires.holds c.requires.within in
     record { holds = c.requires.holds; order = omega arith; within = omega arith; drafts = c.requires.drafts; room = omega arith; small = c.requires.small; more = omega arith }
 
-pub push-entry-with-requires : goal.push-entry-with-requires
-push-entry-with-requires c =
+pub push_entry-with-requires : goal.push_entry-with-requires
+push_entry-with-requires c =
     let at = spans _ _ _ c.requires.holds c.requires.within in
     let many = length_span c.args.tree.bytes.now c.args.tree.places.now 0 c.args.i (omega arith) in
-    let grown = c.push-cells-before.ensures in
+    let grown = c.push_cells-before.ensures in
     record { drafts = grown.drafts; room = omega arith; small = omega arith; more = omega arith; names = c.requires.names; bytes = c.requires.bytes; few = c.requires.few; spells = c.requires.spells; ok = c.requires.ok }
 
-pub push-cells-requires : goal.push-cells-requires
-push-cells-requires c =
+pub push_cells-requires : goal.push_cells-requires
+push_cells-requires c =
     let at = spans _ _ _ c.requires.holds c.requires.within in
     let many = length_span c.args.tree.bytes.now c.args.tree.places.now 0 c.args.i (omega arith) in
-    let before = c.push-cells-before.ensures in
-    let with' = c.push-entry-with.ensures in
+    let before = c.push_cells-before.ensures in
+    let with' = c.push_entry-with.ensures in
     record { holds = c.requires.holds; order = omega arith; within = omega arith; drafts = with'.drafts; room = omega arith; small = omega arith; more = omega arith }
 
 pub returns : goal.returns
@@ -30,9 +30,9 @@ returns c =
     let es = entries_of c.args.tree.bytes.now c.args.tree.places.now in
     let at = spans _ _ _ c.requires.holds c.requires.within in
     let n = length c.args.tree.places.now - 1 in
-    let before = c.push-cells-before.ensures in
-    let with' = c.push-entry-with.ensures in
-    let after = c.push-cells.ensures in
+    let before = c.push_cells-before.ensures in
+    let with' = c.push_entry-with.ensures in
+    let after = c.push_cells.ensures in
     record {
       grown = grown_as _ _ _ _ (around c.args.i n _ es (omega (arith, length_entries c.args.tree.bytes.now c.args.tree.places.now))) (omega arith) (grown_then (grown_then before with') after);
       used = omega arith;

@@ -20,7 +20,7 @@ returns-then-n-eq0 c = refused (λ both.
 
 pub loop-at-preserved : goal.loop-at-preserved
 loop-at-preserved c =
-    fronts_more _ _ _ c.loop-at.invariant (All-from_get_or (λ b. b < 256) c.args.path.now 0 (λ i l. (c.type-inv.path i).fits)) _ refl (omega arith) c.if-n-gt64.false c.if-n-path.false c.if-count-ge16.false
+    fronts_more _ _ _ c.loop-at.invariant (All-from_get_or (λ b. b < 256) c.args.path.now 0 (λ i l. (c.type_inv.path i).fits)) _ refl (omega arith) c.if-n-gt64.false c.if-n-path.false c.if-count-ge16.false
 
 pub returns : goal.returns
 returns c = fronts_end _ _ _ c.loop-at.invariant c.loop-at-test.false

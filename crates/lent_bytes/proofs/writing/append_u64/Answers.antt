@@ -6,6 +6,6 @@ use Rattle.lent_bytes.proofs.writing.append_u64.Goals as goal
 pub returns : goal.returns
 unfolding be8
 returns c = record {
-  end = c.append-bytes.ensures.end ∙ ap (λ bs. c.args.at + length bs) c.to-be-bytes.ensures;
-  added = the_same _ _ c.to-be-bytes.ensures c.append-bytes.ensures.added;
+  end = c.append_bytes.ensures.end ∙ ap (λ bs. c.args.at + length bs) c.to_be_bytes.ensures;
+  added = the_same _ _ c.to_be_bytes.ensures c.append_bytes.ensures.added;
 }

@@ -9,12 +9,12 @@ returns-then-value-gt65536 c = λ k l f. let cell = (only c.args.bytes.now k l f
 pub returns-then-len-bytes : goal.returns-then-len-bytes
 returns-then-len-bytes c = λ k l f. omega (arith, (only c.args.bytes.now k l f).0)
 
-pub returns-then-check-path : goal.returns-then-check-path
-returns-then-check-path c = (
+pub returns-then-check_path : goal.returns-then-check_path
+returns-then-check_path c = (
   omega arith,
   omega arith,
-  formed_at _ _ _ c.read-u32-path.ensures c.read-u32-value.ensures (omega arith) (omega arith) (c.check-path.ensures.0 c.if-check-path.true),
+  formed_at _ _ _ c.read_u32-path.ensures c.read_u32-value.ensures (omega arith) (omega arith) (c.check_path.ensures.0 c.if-check_path.true),
 )
 
-pub returns-else-check-path : goal.returns-else-check-path
-returns-else-check-path c = λ k l f. not_from_Decides _ c.check-path.ensures c.if-check-path.false (named_at _ _ k c.read-u32-path.ensures l f)
+pub returns-else-check_path : goal.returns-else-check_path
+returns-else-check_path c = λ k l f. not_from_Decides _ c.check_path.ensures c.if-check_path.false (named_at _ _ k c.read_u32-path.ensures l f)

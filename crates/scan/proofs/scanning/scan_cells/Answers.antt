@@ -5,10 +5,10 @@ use Rattle.scan.proofs.scanning.scan_cells.Goals as goal
 pub loop-at-init : goal.loop-at-init
 loop-at-init c = walk_none _ _ _ c.requires.within c.requires.begins c.requires.some
 
-pub returns-in-default : goal.returns-in-default
-returns-in-default c = λ qs h.
+pub returns-in_default : goal.returns-in_default
+returns-in_default c = λ qs h.
     let found = there _ _ _ _ c.loop-at.invariant c.loop-at-test.true qs h in
-    absurd (c.in-default.ensures found.0 found.1 found.3)
+    absurd (c.in_default.ensures found.0 found.1 found.3)
 
 pub returns-then-count-places : goal.returns-then-count-places
 returns-then-count-places c = λ qs h. omega (arith, goes_on _ _ _ _ c.loop-at.invariant c.loop-at-test.true qs h)

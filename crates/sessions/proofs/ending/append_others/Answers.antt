@@ -14,10 +14,10 @@ loop-i-preserved-then-session-number c =
     let pre = c.args.prelude.now in
     let i = c.loop-i.i in
     let p = c.loop-i.invariant in
-    (p.0, passed_skip c.args.session.0 (sessions_in pre) p.0 (be32 pre 24 - i) (be32 pre 24 - (i + 1)) pre (28 + 8 * i) (28 + 8 * (i + 1)) p.1 (omega arith) (omega arith) (c.if-session-number.true ∙ c.read-u64-number.ensures), p.2, omega (arith, p.3))
+    (p.0, passed_skip c.args.session.0 (sessions_in pre) p.0 (be32 pre 24 - i) (be32 pre 24 - (i + 1)) pre (28 + 8 * i) (28 + 8 * (i + 1)) p.1 (omega arith) (omega arith) (c.if-session-number.true ∙ c.read_u64-number.ensures), p.2, omega (arith, p.3))
 
-pub append-u64-end-requires : goal.append-u64-end-requires
-append-u64-end-requires c = let p = c.loop-i.invariant in omega (arith, p.3)
+pub append_u64-end-requires : goal.append_u64-end-requires
+append_u64-end-requires c = let p = c.loop-i.invariant in omega (arith, p.3)
 
 pub loop-i-preserved : goal.loop-i-preserved
 loop-i-preserved c =
@@ -25,9 +25,9 @@ loop-i-preserved c =
     let i = c.loop-i.i in
     let p = c.loop-i.invariant in (
       p.0 ++ (be64 pre (28 + 8 * i) ∷ []),
-      passed_more c.args.session.0 (sessions_in pre) p.0 (be32 pre 24 - i) (be32 pre 24 - (i + 1)) pre (28 + 8 * i) (28 + 8 * (i + 1)) p.1 (omega arith) (omega arith) (λ e. c.if-session-number.false (e ∙ sym c.read-u64-number.ensures)),
-      the_same _ _ (ap (λ (n : ℕ). numbers_bytes p.0 ++ be8 n) c.read-u64-number.ensures ∙ sym (bytes_push p.0 (be64 pre (28 + 8 * i)))) (and_then p.2 c.append-u64-end.ensures.added),
-      omega (arith, p.3, c.append-u64-end.ensures.end),
+      passed_more c.args.session.0 (sessions_in pre) p.0 (be32 pre 24 - i) (be32 pre 24 - (i + 1)) pre (28 + 8 * i) (28 + 8 * (i + 1)) p.1 (omega arith) (omega arith) (λ e. c.if-session-number.false (e ∙ sym c.read_u64-number.ensures)),
+      the_same _ _ (ap (λ (n : ℕ). numbers_bytes p.0 ++ be8 n) c.read_u64-number.ensures ∙ sym (bytes_push p.0 (be64 pre (28 + 8 * i)))) (and_then p.2 c.append_u64-end.ensures.added),
+      omega (arith, p.3, c.append_u64-end.ensures.end),
     )
 
 pub returns : goal.returns

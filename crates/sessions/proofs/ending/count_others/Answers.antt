@@ -9,15 +9,15 @@ use Rattle.sessions.proofs.ending.count_others.Goals as goal
 pub loop-i-init : goal.loop-i-init
 loop-i-init c = ([], passed_first c.args.session.0 (be32 c.args.prelude.now 24) c.args.prelude.now 28, refl, omega arith)
 
-pub loop-i-preserved-then-session-read-u64 : goal.loop-i-preserved-then-session-read-u64
-loop-i-preserved-then-session-read-u64 c =
+pub loop-i-preserved-then-session-read_u64 : goal.loop-i-preserved-then-session-read_u64
+loop-i-preserved-then-session-read_u64 c =
     let pre = c.args.prelude.now in
     let i = c.loop-i.i in
     let p = c.loop-i.invariant in
-    (p.0, passed_skip c.args.session.0 (sessions_in pre) p.0 (be32 pre 24 - i) (be32 pre 24 - (i + 1)) pre (28 + 8 * i) (28 + 8 * (i + 1)) p.1 (omega arith) (omega arith) (c.if-session-read-u64.true ∙ c.read-u64.ensures), p.2, omega (arith, p.3))
+    (p.0, passed_skip c.args.session.0 (sessions_in pre) p.0 (be32 pre 24 - i) (be32 pre 24 - (i + 1)) pre (28 + 8 * i) (28 + 8 * (i + 1)) p.1 (omega arith) (omega arith) (c.if-session-read_u64.true ∙ c.read_u64.ensures), p.2, omega (arith, p.3))
 
-pub overflow-add-count : goal.overflow-add-count
-overflow-add-count c = let p = c.loop-i.invariant in record { fits = omega (arith, p.3) }
+pub overflow_add-count : goal.overflow_add-count
+overflow_add-count c = let p = c.loop-i.invariant in record { fits = omega (arith, p.3) }
 
 pub loop-i-preserved : goal.loop-i-preserved
 loop-i-preserved c =
@@ -25,7 +25,7 @@ loop-i-preserved c =
     let i = c.loop-i.i in
     let p = c.loop-i.invariant in (
       p.0 ++ (be64 pre (28 + 8 * i) ∷ []),
-      passed_more c.args.session.0 (sessions_in pre) p.0 (be32 pre 24 - i) (be32 pre 24 - (i + 1)) pre (28 + 8 * i) (28 + 8 * (i + 1)) p.1 (omega arith) (omega arith) (λ e. c.if-session-read-u64.false (e ∙ sym c.read-u64.ensures)),
+      passed_more c.args.session.0 (sessions_in pre) p.0 (be32 pre 24 - i) (be32 pre 24 - (i + 1)) pre (28 + 8 * i) (28 + 8 * (i + 1)) p.1 (omega arith) (omega arith) (λ e. c.if-session-read_u64.false (e ∙ sym c.read_u64.ensures)),
       ap (λ (n : ℕ). n + 1) p.2 ∙ sym (length_push p.0 (be64 pre (28 + 8 * i))),
       omega (arith, p.3),
     )

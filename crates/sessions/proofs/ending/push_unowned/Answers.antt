@@ -19,16 +19,16 @@ pub loop-i-preserved-then-session-head : goal.loop-i-preserved-then-session-head
 loop-i-preserved-then-session-head c =
     let mem = c.args.tree.bytes.now in
     let ps = c.args.tree.places.now in
-    let e = entry_of c.cell-at.result.now in
+    let e = entry_of c.cell_at.result.now in
     let f = λ (x : Entry). not (eqb c.args.session.0 x.owner) in
-    let own = ap not (eq-eqb c.args.session.0 e.owner (c.if-session-head.true ∙ head_owner _ _ c.read-head-head.ensures)) in (
-      grown_as _ _ _ _ (keep_skip f (entries_of mem ps) c.loop-i.i e (omega (arith, length_entries mem ps)) (c.cell-at.ensures.entry e) own) refl c.loop-i.invariant.0,
+    let own = ap not (eq-eqb c.args.session.0 e.owner (c.if-session-head.true ∙ head_owner _ _ c.read_head-head.ensures)) in (
+      grown_as _ _ _ _ (keep_skip f (entries_of mem ps) c.loop-i.i e (omega (arith, length_entries mem ps)) (c.cell_at.ensures.entry e) own) refl c.loop-i.invariant.0,
       omega (arith, c.requires.holds.rises c.loop-i.i (omega arith)),
       omega arith,
     )
 
-pub push-cells-next-requires : goal.push-cells-next-requires
-push-cells-next-requires c =
+pub push_cells-next-requires : goal.push_cells-next-requires
+push_cells-next-requires c =
     let i = c.loop-i.i in
     record {
       holds = c.requires.holds;
@@ -46,13 +46,13 @@ loop-i-preserved c =
     let ps = c.args.tree.places.now in
     let i = c.loop-i.i in
     let es = entries_of mem ps in
-    let e = entry_of c.cell-at.result.now in
+    let e = entry_of c.cell_at.result.now in
     let f = λ (x : Entry). not (eqb c.args.session.0 x.owner) in
     let many = length_entries mem ps in
-    let other = ap not (ne_eqb c.args.session.0 e.owner (λ h. c.if-session-head.false (h ∙ sym (head_owner _ _ c.read-head-head.ensures)))) in
-    let g = c.push-cells-next.ensures in
-    let one = one_entry es i e (omega arith) (c.cell-at.ensures.entry e) in (
-      grown_as _ _ _ _ (ap (λ (l : List Entry). keep f (take i es) ++ l) one ∙ keep_more f es i e (omega arith) (c.cell-at.ensures.entry e) other) (omega (arith, g.used, c.loop-i.invariant.0.used)) (grown_then c.loop-i.invariant.0 g),
+    let other = ap not (ne_eqb c.args.session.0 e.owner (λ h. c.if-session-head.false (h ∙ sym (head_owner _ _ c.read_head-head.ensures)))) in
+    let g = c.push_cells-next.ensures in
+    let one = one_entry es i e (omega arith) (c.cell_at.ensures.entry e) in (
+      grown_as _ _ _ _ (ap (λ (l : List Entry). keep f (take i es) ++ l) one ∙ keep_more f es i e (omega arith) (c.cell_at.ensures.entry e) other) (omega (arith, g.used, c.loop-i.invariant.0.used)) (grown_then c.loop-i.invariant.0 g),
       omega (arith, g.used, c.requires.holds.rises i (omega arith)),
       omega (arith, g.count, length_span mem ps i (i + 1) (omega arith)),
     )

@@ -14,22 +14,22 @@ returns c =
     let mem = c.args.tree.bytes.now in
     let ps = c.args.tree.places.now in
     let s = state_of mem ps in
-    let pre = c.prelude-of-prelude.result.now in
-    let is = c.prelude-of-prelude.ensures.value in
+    let pre = c.prelude_of-prelude.result.now in
+    let is = c.prelude_of-prelude.ensures.value in
     let ys = others c.args.session.0 s.sessions in
     let n = c.args.changes.0 in
     let ln : n < 18446744073709551616 = search rules in
-    let lt : c.top-of.result.0 < 18446744073709551616 = search rules in
-    let lt' : s.top < 18446744073709551616 = omega (arith, c.top-of.ensures) in
-    let last : c.read-u64.result ≡ s.last_session = c.read-u64.ensures ∙ ap (λ (bs : List ℕ). be64 bs 16) is in
-    let lx : s.last_session < 18446744073709551616 = omega (arith, last, c.read-u64.type-inv) in
-    let count : c.count-others.result ≡ length ys = c.count-others.ensures.count ∙ ap (λ (bs : List ℕ). length (others c.args.session.0 (sessions_in bs))) is in
-    let lk : length ys < 4294967296 = omega (arith, count, c.count-others.type-inv) in
+    let lt : c.top_of.result.0 < 18446744073709551616 = search rules in
+    let lt' : s.top < 18446744073709551616 = omega (arith, c.top_of.ensures) in
+    let last : c.read_u64.result ≡ s.last_session = c.read_u64.ensures ∙ ap (λ (bs : List ℕ). be64 bs 16) is in
+    let lx : s.last_session < 18446744073709551616 = omega (arith, last, c.read_u64.type_inv) in
+    let count : c.count_others.result ≡ length ys = c.count_others.ensures.count ∙ ap (λ (bs : List ℕ). length (others c.args.session.0 (sessions_in bs))) is in
+    let lk : length ys < 4294967296 = omega (arith, count, c.count_others.type_inv) in
     let first = begins_count mem ps c.requires.holds in
     let sessions : be32 pre 24 ≡ length s.sessions = ap (λ (bs : List ℕ). be32 bs 24) is ∙ sym (length_numbers (be32 (prelude_of mem ps) 24) (prelude_of mem ps) 28) in
-    let added = the_same _ (ended n s.top s.last_session ys) (λ i. (((be8 n ++ be8 (c.top-of.ensures i)) ++ be8 (last i)) ++ be4 (count i)) ++ numbers_bytes (others c.args.session.0 (sessions_in (is i))))
-    (and_then (and_then (and_then (and_then c.append-u64-a.ensures.added c.append-u64-b.ensures.added) c.append-u64-c.ensures.added) c.append-u32-d.ensures.added) c.append-others-used.ensures.added) in
+    let added = the_same _ (ended n s.top s.last_session ys) (λ i. (((be8 n ++ be8 (c.top_of.ensures i)) ++ be8 (last i)) ++ be4 (count i)) ++ numbers_bytes (others c.args.session.0 (sessions_in (is i))))
+    (and_then (and_then (and_then (and_then c.append_u64-a.ensures.added c.append_u64-b.ensures.added) c.append_u64-c.ensures.added) c.append_u32-d.ensures.added) c.append_others-used.ensures.added) in
     record {
-      begun = begun _ _ _ _ _ (ended_begins n s.top s.last_session ys ln lt' lx lk) added c.requires.more (omega (arith, added.long, c.append-others-used.ensures.end));
-      used = omega (arith, c.append-others-used.ensures.end);
+      begun = begun _ _ _ _ _ (ended_begins n s.top s.last_session ys ln lt' lx lk) added c.requires.more (omega (arith, added.long, c.append_others-used.ensures.end));
+      used = omega (arith, c.append_others-used.ensures.end);
     }

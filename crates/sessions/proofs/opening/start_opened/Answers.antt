@@ -18,14 +18,14 @@ returns c =
     let n = c.args.changes.0 in
     let ln : n < 18446744073709551616 = search rules in
     let lx : x < 18446744073709551616 = search rules in
-    let lt : c.top-of.result.0 < 18446744073709551616 = search rules in
-    let lt' : s.top < 18446744073709551616 = omega (arith, c.top-of.ensures) in
-    let rest = take_rest c.prelude-of-prelude.result.now 28 ∙ ap (drop 28) c.prelude-of-prelude.ensures.value in
+    let lt : c.top_of.result.0 < 18446744073709551616 = search rules in
+    let lt' : s.top < 18446744073709551616 = omega (arith, c.top_of.ensures) in
+    let rest = take_rest c.prelude_of-prelude.result.now 28 ∙ ap (drop 28) c.prelude_of-prelude.ensures.value in
     let long = others_long mem ps c.requires.holds in
     let first = begins_count mem ps c.requires.holds in
     let all = opened_long n s.top x (k + 1) others ln lt' lx (omega arith) in
-    let added = the_same _ (opened n s.top x (k + 1) others) (λ i. opened n (c.top-of.ensures i) x (c.session-count.ensures i + 1) (rest i))
-    (and_then (and_then (and_then (and_then (and_then c.append-u64-a.ensures.added c.append-u64-b.ensures.added) c.append-u64-c.ensures.added) c.append-u32-d.ensures.added) c.append-bytes-e.ensures.added) c.append-u64-used.ensures.added) in
+    let added = the_same _ (opened n s.top x (k + 1) others) (λ i. opened n (c.top_of.ensures i) x (c.session_count.ensures i + 1) (rest i))
+    (and_then (and_then (and_then (and_then (and_then c.append_u64-a.ensures.added c.append_u64-b.ensures.added) c.append_u64-c.ensures.added) c.append_u32-d.ensures.added) c.append_bytes-e.ensures.added) c.append_u64-used.ensures.added) in
     record {
       begun = begun _ _ _ _ _ (opened_begins n s.top x (k + 1) others ln lt' lx (omega arith) (omega arith)) added c.requires.more (omega (arith, added.ends, added.long));
       used = omega (arith, added.ends);

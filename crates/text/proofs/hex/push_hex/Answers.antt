@@ -11,9 +11,9 @@ loop-b-init c = sym (append-nil _)
 
 pub loop-b-preserved : goal.loop-b-preserved
 loop-b-preserved c =
-    let items = c.in-ok-extend-from-slice.ensures.items in
+    let items = c.in_ok-extend_from_slice.ensures.items in
     let more = hex_of_more (vec_items c.args.out.now) c.args.bytes.now c.loop-b.b-index c.loop-b-test.true in
-    cc (items, more, c.loop-b.invariant, c.hex-digit.ensures, c.hex-digit-in-loop-b.ensures)
+    cc (items, more, c.loop-b.invariant, c.hex_digit.ensures, c.hex_digit-in-loop-b.ensures)
 
 pub returns : goal.returns
 returns c =

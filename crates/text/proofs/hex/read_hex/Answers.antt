@@ -6,29 +6,29 @@ use Rattle.text.specs.Hex.{unhex_from, bytes_before}
 use Rattle.text.proofs.HexSteps.{bad_high, bad_low, good_pair, unhex_end, unhex_lone}
 use Rattle.text.proofs.hex.read_hex.Goals as goal
 
-pub returns-in-default : goal.returns-in-default
-returns-in-default c =
+pub returns-in_default : goal.returns-in_default
+returns-in_default c =
     c.loop-i.invariant
-    ∙ bad_high (vec_items c.loop-i.out) c.args.text.now (2 * c.loop-i.i) (omega (arith, c.loop-i-test.true)) c.in-default.ensures.value
+    ∙ bad_high (vec_items c.loop-i.out) c.args.text.now (2 * c.loop-i.i) (omega (arith, c.loop-i-test.true)) c.in_default.ensures.value
 
-pub returns-in-default-hex-value : goal.returns-in-default-hex-value
-returns-in-default-hex-value c =
+pub returns-in_default-hex_value : goal.returns-in_default-hex_value
+returns-in_default-hex_value c =
     c.loop-i.invariant
     ∙ bad_low (vec_items c.loop-i.out) c.args.text.now (2 * c.loop-i.i) (omega (arith, c.loop-i-test.true)) c.in-Some.high
     c.in-Some.ensures.value
-    c.in-default-hex-value.ensures.value
+    c.in_default-hex_value.ensures.value
 
 pub loop-i-preserved : goal.loop-i-preserved
 loop-i-preserved c =
     c.loop-i.invariant
     ∙ (good_pair (vec_items c.loop-i.out) c.args.text.now (2 * c.loop-i.i) (omega (arith, c.loop-i-test.true)) c.in-Some.high
-    c.in-Some-hex-value.low
+    c.in-Some-hex_value.low
     (2 * (c.loop-i.i + 1))
     c.in-Some.ensures.value
-    c.in-Some-hex-value.ensures.value
+    c.in-Some-hex_value.ensures.value
     (omega arith)
     ∙ ap (λ (xs : List ℕ). bytes_before xs (unhex_from (2 * (c.loop-i.i + 1)) (drop (2 * (c.loop-i.i + 1)) c.args.text.now)))
-    (sym c.in-ok-push.ensures.items))
+    (sym c.in_ok-push.ensures.items))
 
 pub returns-then-text-eq1 : goal.returns-then-text-eq1
 returns-then-text-eq1 c =

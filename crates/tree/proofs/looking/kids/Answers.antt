@@ -21,23 +21,23 @@ returns-in-Err c =
 pub loop-i-init : goal.loop-i-init
 loop-i-init c = listing_none _ _ c.args.out.now
 
-pub loop-i-preserved-then-not-is-kid : goal.loop-i-preserved-then-not-is-kid
-loop-i-preserved-then-not-is-kid c =
+pub loop-i-preserved-then-not-is_kid : goal.loop-i-preserved-then-not-is_kid
+loop-i-preserved-then-not-is_kid c =
     let mem = c.args.tree.bytes.now in
     let ps = c.args.tree.places.now in
-    let e = entry_of c.cell-at-entry.result.now in
-    listing_skip (path_of c.args.path.now) (entries_of mem ps) c.loop-i.i e (omega (arith, length_entries mem ps)) (c.cell-at-entry.ensures.entry e) _ _ c.loop-i.invariant (sym c.if-not-is-kid.ensures)
+    let e = entry_of c.cell_at-entry.result.now in
+    listing_skip (path_of c.args.path.now) (entries_of mem ps) c.loop-i.i e (omega (arith, length_entries mem ps)) (c.cell_at-entry.ensures.entry e) _ _ c.loop-i.invariant (sym c.if-not-is_kid.ensures)
 
-pub overflow-add-listed : goal.overflow-add-listed
-overflow-add-listed c = record { fits = omega (arith, c.loop-i.invariant.few) }
+pub overflow_add-listed : goal.overflow_add-listed
+overflow_add-listed c = record { fits = omega (arith, c.loop-i.invariant.few) }
 
 pub loop-i-preserved : goal.loop-i-preserved
 loop-i-preserved c =
     let mem = c.args.tree.bytes.now in
     let ps = c.args.tree.places.now in
-    let e = entry_of c.cell-at-entry.result.now in
-    listing_more (path_of c.args.path.now) (entries_of mem ps) c.loop-i.i e (omega (arith, length_entries mem ps)) (c.cell-at-entry.ensures.entry e) _ _ c.loop-i.invariant (sym c.if-not-is-kid.ensures)
-    _ _ _ c.name-in.ensures.value c.name-in.ensures.few c.append-bytes-end.ensures.added
+    let e = entry_of c.cell_at-entry.result.now in
+    listing_more (path_of c.args.path.now) (entries_of mem ps) c.loop-i.i e (omega (arith, length_entries mem ps)) (c.cell_at-entry.ensures.entry e) _ _ c.loop-i.invariant (sym c.if-not-is_kid.ensures)
+    _ _ _ c.name_in.ensures.value c.name_in.ensures.few c.append_bytes-end.ensures.added
 
 pub returns : goal.returns
 returns c =
