@@ -13,9 +13,9 @@ returns c =
           (vec_items (with_items c.args.desk.places c.answer-done.new.places))
           c.answer-done.new.reply
           (vec_items (with_items c.args.desk.reply c.answer-done.new.reply))
-          (with_items_is c.args.desk.last c.answer-done.new.last (c.answer-done.auto.last ∙ c.as-mut-slice.ensures.len))
-          (with_items_is c.args.desk.places c.answer-done.new.places (c.answer-done.auto.places ∙ c.as-mut-slice-2.ensures.len))
-          (with_items_is c.args.desk.reply c.answer-done.new.reply (c.answer-done.auto.reply ∙ c.as-mut-slice-3.ensures.len))
+          (with_items_is c.args.desk.last c.answer-done.new.last (c.answer-done.auto.last ∙ c.as_mut_slice.ensures.len))
+          (with_items_is c.args.desk.places c.answer-done.new.places (c.answer-done.auto.places ∙ c.as_mut_slice-2.ensures.len))
+          (with_items_is c.args.desk.reply c.answer-done.new.reply (c.answer-done.auto.reply ∙ c.as_mut_slice-3.ensures.len))
           c.answer-done.ensures;
       long = (same_length c.args.desk.last c.answer-done.new.last, same_length c.args.desk.places c.answer-done.new.places, same_length c.args.desk.reply c.answer-done.new.reply);
     }

@@ -4,8 +4,8 @@ use Rattle.wire.proofs.MessagesAgain.{then_again}
 use Rattle.decode.proofs.Refusing.{no_kind}
 use Rattle.decode.proofs.read_message.Goals as goal
 
-pub returns-in-default-kind : goal.returns-in-default-kind
-returns-in-default-kind c room =
+pub returns-in_default-kind : goal.returns-in_default-kind
+returns-in_default-kind c room =
     let all = c.args.all in
     let k = c.in-Some.kind in
     let bs = c.in-Some.rest.now in

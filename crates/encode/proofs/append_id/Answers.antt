@@ -4,6 +4,6 @@ use Rattle.encode.proofs.append_id.Goals as goal
 
 pub returns : goal.returns
 returns c = record {
-  end = omega (arith, c.append-view-a.ensures.end, c.append-u64.ensures.end);
-  added = and_then c.append-view-a.ensures.added c.append-u64.ensures.added;
+  end = omega (arith, c.append_view-a.ensures.end, c.append_u64.ensures.end);
+  added = and_then c.append_view-a.ensures.added c.append_u64.ensures.added;
 }

@@ -7,7 +7,7 @@ pub returns : goal.returns
 returns c =
     let p = c.args.proposal in
     record {
-      end = omega (arith, c.append-id-a.ensures.end, c.append-seats-b.ensures.end, c.append-bytes.ensures.end);
+      end = omega (arith, c.append_id-a.ensures.end, c.append_seats-b.ensures.end, c.append_bytes.ensures.end);
       added = the_same _ _ (sym (append_assoc (id_bytes p.id) (seats_bytes p.seats.places p.seats.outcomes) p.tree.now))
-          (and_then c.append-id-a.ensures.added (and_then c.append-seats-b.ensures.added c.append-bytes.ensures.added));
+          (and_then c.append_id-a.ensures.added (and_then c.append_seats-b.ensures.added c.append_bytes.ensures.added));
     }

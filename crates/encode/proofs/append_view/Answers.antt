@@ -4,6 +4,6 @@ use Rattle.encode.proofs.append_view.Goals as goal
 
 pub returns : goal.returns
 returns c = record {
-  end = omega (arith, c.append-u64-a.ensures.end, c.append-bytes-b.ensures.end, c.append-u64.ensures.end);
-  added = and_then c.append-u64-a.ensures.added (and_then c.append-bytes-b.ensures.added c.append-u64.ensures.added);
+  end = omega (arith, c.append_u64-a.ensures.end, c.append_bytes-b.ensures.end, c.append_u64.ensures.end);
+  added = and_then c.append_u64-a.ensures.added (and_then c.append_bytes-b.ensures.added c.append_u64.ensures.added);
 }

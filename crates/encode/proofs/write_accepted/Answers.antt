@@ -7,6 +7,6 @@ use Rattle.encode.proofs.write_accepted.Goals as goal
 
 pub returns : goal.returns
 returns c = record {
-  end = omega (arith, c.append-front-at.ensures.end, c.append-id-a.ensures.end, c.append-u64.ensures.end);
-  added = the_same _ _ (front_then 5 (id_bytes c.args.id ++ be8 c.args.incarnation)) (and_then c.append-front-at.ensures.added (and_then c.append-id-a.ensures.added c.append-u64.ensures.added));
+  end = omega (arith, c.append_front-at.ensures.end, c.append_id-a.ensures.end, c.append_u64.ensures.end);
+  added = the_same _ _ (front_then 5 (id_bytes c.args.id ++ be8 c.args.incarnation)) (and_then c.append_front-at.ensures.added (and_then c.append_id-a.ensures.added c.append_u64.ensures.added));
 }

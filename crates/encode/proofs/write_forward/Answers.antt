@@ -6,6 +6,6 @@ use Rattle.encode.proofs.write_forward.Goals as goal
 
 pub returns : goal.returns
 returns c = record {
-  end = omega (arith, c.append-front-at.ensures.end, c.append-u64-a.ensures.end, c.append-u64-b.ensures.end, c.append-u64-c.ensures.end, c.append-bytes.ensures.end);
-  added = the_same _ _ (front_then 7 (be8 c.args.asked.incarnation ++ (be8 c.args.asked.no ++ (be8 c.args.asked.number ++ c.args.asked.call.now)))) (and_then c.append-front-at.ensures.added (and_then c.append-u64-a.ensures.added (and_then c.append-u64-b.ensures.added (and_then c.append-u64-c.ensures.added c.append-bytes.ensures.added))));
+  end = omega (arith, c.append_front-at.ensures.end, c.append_u64-a.ensures.end, c.append_u64-b.ensures.end, c.append_u64-c.ensures.end, c.append_bytes.ensures.end);
+  added = the_same _ _ (front_then 7 (be8 c.args.asked.incarnation ++ (be8 c.args.asked.no ++ (be8 c.args.asked.number ++ c.args.asked.call.now)))) (and_then c.append_front-at.ensures.added (and_then c.append_u64-a.ensures.added (and_then c.append_u64-b.ensures.added (and_then c.append_u64-c.ensures.added c.append_bytes.ensures.added))));
 }

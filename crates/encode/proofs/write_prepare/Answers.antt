@@ -6,6 +6,6 @@ use Rattle.encode.proofs.write_prepare.Goals as goal
 
 pub returns : goal.returns
 returns c = record {
-  end = omega (arith, c.append-front-at.ensures.end, c.append-view.ensures.end);
-  added = the_same _ _ (front_then 1 (view_bytes c.args.view)) (and_then c.append-front-at.ensures.added c.append-view.ensures.added);
+  end = omega (arith, c.append_front-at.ensures.end, c.append_view.ensures.end);
+  added = the_same _ _ (front_then 1 (view_bytes c.args.view)) (and_then c.append_front-at.ensures.added c.append_view.ensures.added);
 }

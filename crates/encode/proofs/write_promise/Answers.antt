@@ -8,6 +8,6 @@ use Rattle.encode.proofs.write_promise.Goals as goal
 
 pub returns : goal.returns
 returns c = record {
-  end = omega (arith, c.append-front-at.ensures.end, c.append-view-a.ensures.end, c.append-u64-b.ensures.end, c.append-proposal.ensures.end);
-  added = the_same _ _ (front_then 2 (view_bytes c.args.view ++ (be8 c.args.incarnation ++ proposal_written c.args.proposal))) (and_then c.append-front-at.ensures.added (and_then c.append-view-a.ensures.added (and_then c.append-u64-b.ensures.added c.append-proposal.ensures.added)));
+  end = omega (arith, c.append_front-at.ensures.end, c.append_view-a.ensures.end, c.append_u64-b.ensures.end, c.append_proposal.ensures.end);
+  added = the_same _ _ (front_then 2 (view_bytes c.args.view ++ (be8 c.args.incarnation ++ proposal_written c.args.proposal))) (and_then c.append_front-at.ensures.added (and_then c.append_view-a.ensures.added (and_then c.append_u64-b.ensures.added c.append_proposal.ensures.added)));
 }

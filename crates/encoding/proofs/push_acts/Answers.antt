@@ -15,7 +15,7 @@ loop-act-init c = sym (append-nil _)
 
 pub loop-act-preserved : goal.loop-act-preserved
 loop-act-preserved c =
-    c.in-ok-push-act.ensures
+    c.in_ok-push_act.ensures
     ∙ (ap (λ (xs : List ℕ). xs ++ act_written (act_of c.act-item.result)) c.loop-act.invariant
     ∙ written_more act_of (many_written act_written) act_written (written_push act_written) (vec_items c.args.out.now) c.args.acts.now c.loop-act.act-index c.act-item.result
     c.loop-act-test.true
@@ -26,5 +26,5 @@ returns c =
     c.loop-act.invariant
     ∙ written_all act_of (many_written act_written) act_written (written_push act_written) (vec_items c.args.out.now) c.args.acts.now c.loop-act.act-index c.loop-act-test.false
 
-pub push-act-requires : goal.push-act-requires
-push-act-requires c = every_at act_of act_fits c.args.acts.now c.loop-act.act-index c.act-item.result c.requires c.loop-act-test.true c.act-item.is
+pub push_act-requires : goal.push_act-requires
+push_act-requires c = every_at act_of act_fits c.args.acts.now c.loop-act.act-index c.act-item.result c.requires c.loop-act-test.true c.act-item.is

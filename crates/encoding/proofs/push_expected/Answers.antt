@@ -6,9 +6,9 @@ use Rattle.calls.specs.Reading.{expect_of}
 use Rattle.text.proofs.Appends.{two_parts}
 use Rattle.encoding.proofs.push_expected.Goals as goal
 
-pub returns-in-ok-extend-from-slice : goal.returns-in-ok-extend-from-slice
+pub returns-in_ok-extend_from_slice-in-Exactly : goal.returns-in_ok-extend_from_slice-in-Exactly
 unfolding be8
-returns-in-ok-extend-from-slice c =
-    two_parts (vec_items c.args.out.now) (1 ∷ []) c.to-be-bytes.result c.in-ok-push-2.ensures.items c.in-ok-extend-from-slice.ensures.items
-    ∙ (ap (λ (xs : List ℕ). vec_items c.args.out.now ++ (1 ∷ xs)) c.to-be-bytes.ensures
+returns-in_ok-extend_from_slice-in-Exactly c =
+    two_parts (vec_items c.args.out.now) (1 ∷ []) c.to_be_bytes.result c.in_ok-push-in-Exactly.ensures.items c.in_ok-extend_from_slice-in-Exactly.ensures.items
+    ∙ (ap (λ (xs : List ℕ). vec_items c.args.out.now ++ (1 ∷ xs)) c.to_be_bytes.ensures
     ∙ ap (λ e. vec_items c.args.out.now ++ expect_written (expect_of e)) (sym c.in-Exactly.is))

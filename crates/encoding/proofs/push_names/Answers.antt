@@ -15,7 +15,7 @@ loop-name-init c = sym (append-nil _)
 
 pub loop-name-preserved : goal.loop-name-preserved
 loop-name-preserved c =
-    c.in-ok-push-name.ensures
+    c.in_ok-push_name.ensures
     ∙ (ap (λ (xs : List ℕ). xs ++ name_bytes (name_of c.name-item.result)) c.loop-name.invariant
     ∙ written_more name_of path_bytes name_bytes names_push (vec_items c.args.out.now) c.args.names.now c.loop-name.name-index c.name-item.result
     c.loop-name-test.true
@@ -26,5 +26,5 @@ returns c =
     c.loop-name.invariant
     ∙ written_all name_of path_bytes name_bytes names_push (vec_items c.args.out.now) c.args.names.now c.loop-name.name-index c.loop-name-test.false
 
-pub push-name-requires : goal.push-name-requires
-push-name-requires c = every_at name_of name_fits c.args.names.now c.loop-name.name-index c.name-item.result c.requires c.loop-name-test.true c.name-item.is
+pub push_name-requires : goal.push_name-requires
+push_name-requires c = every_at name_of name_fits c.args.names.now c.loop-name.name-index c.name-item.result c.requires c.loop-name-test.true c.name-item.is

@@ -7,6 +7,6 @@ use Rattle.encoding.proofs.push_owner.Goals as goal
 pub returns : goal.returns
 unfolding be8
 returns c =
-    two_parts (vec_items c.args.out.now) (c.flag.result ∷ []) c.to-be-bytes.result c.in-ok-push.ensures.items c.in-ok-extend-from-slice.ensures.items
-    ∙ (ap (λ (xs : List ℕ). vec_items c.args.out.now ++ (c.flag.result ∷ xs)) c.to-be-bytes.ensures
+    two_parts (vec_items c.args.out.now) (c.flag.result ∷ []) c.to_be_bytes.result c.in_ok-push.ensures.items c.in_ok-extend_from_slice.ensures.items
+    ∙ (ap (λ (xs : List ℕ). vec_items c.args.out.now ++ (c.flag.result ∷ xs)) c.to_be_bytes.ensures
     ∙ ap (λ (n : ℕ). vec_items c.args.out.now ++ (n ∷ be8 c.args.session.0)) c.flag.ensures)

@@ -7,6 +7,6 @@ use Rattle.encoding.proofs.push_value.Goals as goal
 pub returns : goal.returns
 unfolding be4
 returns c =
-    two_parts (vec_items c.args.out.now) c.to-be-bytes.result c.args.value.now c.in-ok-extend-from-slice.ensures.items
-    c.in-ok-extend-from-slice-2.ensures.items
-    ∙ ap (λ (xs : List ℕ). vec_items c.args.out.now ++ (xs ++ c.args.value.now)) c.to-be-bytes.ensures
+    two_parts (vec_items c.args.out.now) c.to_be_bytes.result c.args.value.now c.in_ok-extend_from_slice.ensures.items
+    c.in_ok-extend_from_slice-2.ensures.items
+    ∙ ap (λ (xs : List ℕ). vec_items c.args.out.now ++ (xs ++ c.args.value.now)) c.to_be_bytes.ensures

@@ -10,35 +10,35 @@ use Rattle.words.proofs.Many.{before, many_over, many_end, many_wrong, many_more
 use Rattle.words.proofs.Faults.{hands_on}
 use Rattle.phrases.proofs.read_acts.Goals as goal
 
-pub returns-then-at-brace : goal.returns-then-at-brace
-returns-then-at-brace c =
+pub returns-then-at_brace : goal.returns-then-at_brace
+returns-then-at_brace c =
     c.loop.invariant
     ∙ many_over at_brace piece_at (map act_of (vec_items c.loop.acts)) c.loop.rest.now (length c.args.text.now - c.loop.counter)
-    (sym c.if-at-brace.ensures)
+    (sym c.if-at_brace.ensures)
 
-pub returns-in-err-act : goal.returns-in-err-act
-returns-in-err-act c =
-    let p = err_from_is_err_and c.from-residual.result c.from-residual.ensures.1 in
+pub returns-in_err-act : goal.returns-in_err-act
+returns-in_err-act c =
+    let p = err_from_is_err_and c.from_residual.result c.from_residual.ensures.1 in
     rw (p.1, p.2)
-    (hands_on act_of acts_of c.in-err-act.field-0.0 (piece_at c.loop.rest.now) (acts_at c.args.text.now)
+    (hands_on act_of acts_of c.in_err-act.field-0.0 (piece_at c.loop.rest.now) (acts_at c.args.text.now)
     (λ w.
     c.loop.invariant
     ∙ many_wrong at_brace piece_at (map act_of (vec_items c.loop.acts)) c.loop.rest.now (length c.args.text.now) c.loop.counter
     c.loop-test.true
-    (sym c.if-at-brace.ensures)
+    (sym c.if-at_brace.ensures)
     w)
-    c.in-err-act.ensures)
+    c.in_err-act.ensures)
 
 pub loop-preserved : goal.loop-preserved
 loop-preserved c =
     c.loop.invariant
-    ∙ (many_more at_brace piece_at (map act_of (vec_items c.loop.acts)) c.loop.rest.now (length c.args.text.now) c.loop.counter (act_of c.in-ok-act.act)
-    c.in-ok-act.next.now
+    ∙ (many_more at_brace piece_at (map act_of (vec_items c.loop.acts)) c.loop.rest.now (length c.args.text.now) c.loop.counter (act_of c.in_ok-act.act)
+    c.in_ok-act.next.now
     c.loop-test.true
-    (sym c.if-at-brace.ensures)
-    c.in-ok-act.ensures
-    ∙ ap (λ (xs : List Act). before xs (many_while at_brace piece_at (length c.args.text.now - (c.loop.counter + 1)) c.in-ok-act.next.now))
-    (sym (ap (map act_of) c.in-ok-push.ensures.items ∙ map_push act_of (vec_items c.loop.acts) c.in-ok-act.act)))
+    (sym c.if-at_brace.ensures)
+    c.in_ok-act.ensures
+    ∙ ap (λ (xs : List Act). before xs (many_while at_brace piece_at (length c.args.text.now - (c.loop.counter + 1)) c.in_ok-act.next.now))
+    (sym (ap (map act_of) c.in_ok-push.ensures.items ∙ map_push act_of (vec_items c.loop.acts) c.in_ok-act.act)))
 
 pub returns : goal.returns
 returns c =

@@ -5,4 +5,4 @@ use Rattle.replies.proofs.push_count.Goals as goal
 
 pub returns : goal.returns
 returns c =
-    two_parts (vec_items c.args.out.now) c.args.text.now (decimal c.args.number) c.in-ok-push-text.ensures c.in-ok-push-decimal.ensures
+    two_parts (vec_items c.args.out.now) c.args.text.now (decimal c.args.number) c.in_ok-push_text.ensures c.in_ok-push_decimal.ensures

@@ -10,8 +10,8 @@ returns c =
     (count_spelled (codes " changed ") c.args.entry.changed)
     (count_spelled (codes " kids ") c.args.entry.kids)
     (count_spelled (codes " session ") c.args.entry.session)
-    c.in-ok-push-count.ensures
-    c.in-ok-push-count-2.ensures
-    c.in-ok-push-count-3.ensures
-    c.in-ok-push-count-4.ensures
-    c.in-ok-push-count-5.ensures
+    c.in_ok-push_count.ensures
+    c.in_ok-push_count-2.ensures
+    c.in_ok-push_count-3.ensures
+    c.in_ok-push_count-4.ensures
+    c.in_ok-push_count-5.ensures

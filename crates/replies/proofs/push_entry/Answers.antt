@@ -9,6 +9,6 @@ pub returns : goal.returns
 returns c =
     three_parts (vec_items c.args.out.now) (codes "entry ") (value_spelled c.args.entry.value.now)
     (counts_spelled c.args.entry.version c.args.entry.made c.args.entry.changed c.args.entry.kids c.args.entry.session)
-    c.in-ok-push-text.ensures
-    c.in-ok-push-value.ensures
-    c.in-ok-push-counts.ensures
+    c.in_ok-push_text.ensures
+    c.in_ok-push_value.ensures
+    c.in_ok-push_counts.ensures

@@ -10,19 +10,19 @@ use Rattle.replies.proofs.tell_done.Goals as goal
 pub returns : goal.returns
 unfolding reply_spelled
 returns c =
-    list_spelled (many path_behind) Done (codes "done") (λ xs. refl) (vec_items c.args.out.now) (vec_items c.extend-from-slice.new.self) (many_at path_at) (byte_at c.args.bytes.now) c.in-Some.count
+    list_spelled (many path_behind) Done (codes "done") (λ xs. refl) (vec_items c.args.out.now) (vec_items c.extend_from_slice.new.self) (many_at path_at) (byte_at c.args.bytes.now) c.in-Some.count
     c.in-Some.paths.now
     (vec_items c.new-text.result)
-    (vec_items c.push-text.new.out)
-    (vec_items c.tell-paths.new.out)
+    (vec_items c.push_text.new.out)
+    (vec_items c.tell_paths.new.out)
     c.deref.result.now
-    c.in-ok-rest.field-0
+    c.in_ok-rest.field-0
     c.in-Some-2.rest
     c.in-Some.ensures
     c.new-text.ensures.items
-    c.in-ok-push-text.ensures
-    c.in-ok-rest.ensures
+    c.in_ok-push_text.ensures
+    c.in_ok-rest.ensures
     c.in-Some-2.is
-    c.if-not-is-empty.ensures
-    c.in-ok-extend-from-slice.ensures.items
+    c.if-not-is_empty.ensures
+    c.in_ok-extend_from_slice.ensures.items
     c.deref.ensures.value

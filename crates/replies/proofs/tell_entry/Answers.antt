@@ -9,5 +9,5 @@ use Rattle.replies.proofs.tell_entry.Goals as goal
 pub returns : goal.returns
 unfolding reply_spelled
 returns c =
-    spelled (entry_at c.args.bytes.now) (entry_of c.in-Some.entry) (vec_items c.args.out.now) (vec_items c.push-entry.new.out) c.in-Some.ensures
-    c.in-ok-push-entry.ensures
+    spelled (entry_at c.args.bytes.now) (entry_of c.in-Some.entry) (vec_items c.args.out.now) (vec_items c.push_entry.new.out) c.in-Some.ensures
+    c.in_ok-push_entry.ensures

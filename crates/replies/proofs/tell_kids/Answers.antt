@@ -10,19 +10,19 @@ use Rattle.replies.proofs.tell_kids.Goals as goal
 pub returns : goal.returns
 unfolding reply_spelled
 returns c =
-    list_spelled (many (name_behind (codes " "))) Names (codes "names") (λ xs. refl) (vec_items c.args.out.now) (vec_items c.extend-from-slice.new.self) names_at (length_at c.args.bytes.now) c.in-Some.count
+    list_spelled (many (name_behind (codes " "))) Names (codes "names") (λ xs. refl) (vec_items c.args.out.now) (vec_items c.extend_from_slice.new.self) names_at (length_at c.args.bytes.now) c.in-Some.count
     c.in-Some.names.now
     (vec_items c.new-text.result)
-    (vec_items c.push-text.new.out)
-    (vec_items c.tell-names.new.out)
+    (vec_items c.push_text.new.out)
+    (vec_items c.tell_names.new.out)
     c.deref.result.now
-    c.in-ok-rest.field-0
+    c.in_ok-rest.field-0
     c.in-Some-2.rest
     c.in-Some.ensures
     c.new-text.ensures.items
-    c.in-ok-push-text.ensures
-    c.in-ok-rest.ensures
+    c.in_ok-push_text.ensures
+    c.in_ok-rest.ensures
     c.in-Some-2.is
-    c.if-not-is-empty.ensures
-    c.in-ok-extend-from-slice.ensures.items
+    c.if-not-is_empty.ensures
+    c.in_ok-extend_from_slice.ensures.items
     c.deref.ensures.value

@@ -9,5 +9,5 @@ use Rattle.replies.proofs.tell_refusal.Goals as goal
 pub returns : goal.returns
 unfolding reply_spelled
 returns c =
-    spelled (refused_at c.args.bytes.now) (refusal_of c.in-Some.refusal) (vec_items c.args.out.now) (vec_items c.push-refusal.new.out) c.in-Some.ensures
-    c.in-ok-push-refusal.ensures
+    spelled (refused_at c.args.bytes.now) (refusal_of c.in-Some.refusal) (vec_items c.args.out.now) (vec_items c.push_refusal.new.out) c.in-Some.ensures
+    c.in_ok-push_refusal.ensures

@@ -9,5 +9,5 @@ use Rattle.replies.proofs.tell_session.Goals as goal
 pub returns : goal.returns
 unfolding reply_spelled
 returns c =
-    spelled (session_at c.args.bytes.now) (Session c.in-Some.session) (vec_items c.args.out.now) (vec_items c.push-count.new.out) c.in-Some.ensures
-    c.in-ok-push-count.ensures
+    spelled (session_at c.args.bytes.now) (Session c.in-Some.session) (vec_items c.args.out.now) (vec_items c.push_count.new.out) c.in-Some.ensures
+    c.in_ok-push_count.ensures

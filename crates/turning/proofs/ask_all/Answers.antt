@@ -9,6 +9,6 @@ unfolding ask_all
 returns c =
     let t = c.args.turn in
     record {
-      moves = λ room m. moved_by room m t c.ask-all.result (askAllBy t.house.agreement) ask_all c.ask-all.ensures.list (ask_all_done room t.house m) refl;
-      count = c.ask-all.ensures.count;
+      moves = λ room m. moved_by room m t c.ask_all.result (askAllBy t.house.agreement) ask_all c.ask_all.ensures.list (ask_all_done room t.house m) refl;
+      count = c.ask_all.ensures.count;
     }

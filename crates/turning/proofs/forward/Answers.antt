@@ -3,8 +3,8 @@ use Rattle.turning.specs.Turns.{may_forward}
 use Rattle.turning.proofs.Forwarding.{forwarded_turn, not_forwarded}
 use Rattle.turning.proofs.forward.Goals as goal
 
-pub returns-then-not-may-forward : goal.returns-then-not-may-forward
-returns-then-not-may-forward c =
+pub returns-then-not-may_forward : goal.returns-then-not-may_forward
+returns-then-not-may_forward c =
     let e : may_forward c.args.turn.house ≡ false = search rules in
     record { moves = λ room m. not_forwarded room m c.args.turn e; count = omega arith; house = refl }
 

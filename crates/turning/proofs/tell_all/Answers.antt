@@ -9,6 +9,6 @@ unfolding tell_all
 returns c =
     let t = c.args.turn in
     record {
-      moves = λ room m. moved_by room m t c.tell-all.result (tellAllBy t.house.agreement) tell_all c.tell-all.ensures.list (tell_all_done room t.house m) refl;
-      count = c.tell-all.ensures.count;
+      moves = λ room m. moved_by room m t c.tell_all.result (tellAllBy t.house.agreement) tell_all c.tell_all.ensures.list (tell_all_done room t.house m) refl;
+      count = c.tell_all.ensures.count;
     }

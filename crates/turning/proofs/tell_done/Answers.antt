@@ -8,6 +8,6 @@ returns c =
     let t = c.args.turn in
     let o = t.house.agreement.job in
     record {
-      moves = λ room m. moved_by room m t c.tell_done_lem.result (tellDoneBy t.house.agreement o) (λ n. tell_done n.agreement.job n) c.tell_done_lem.ensures.list (done_told room t.house m o) (tell_done_mind room t.house m o);
-      count = c.tell_done_lem.ensures.count;
+      moves = λ room m. moved_by room m t c.tell_done.result (tellDoneBy t.house.agreement o) (λ n. tell_done n.agreement.job n) c.tell_done.ensures.list (done_told room t.house m o) (tell_done_mind room t.house m o);
+      count = c.tell_done.ensures.count;
     }

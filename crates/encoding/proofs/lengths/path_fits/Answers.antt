@@ -8,8 +8,8 @@ use Rattle.encoding.proofs.lengths.path_fits.Goals as goal
 
 pub returns-then-len-le255 : goal.returns-then-len-le255
 returns-then-len-le255 c =
-    few_pass name_of name_fits (vec_items c.args.path.now.0) c.len.result c.names-fit.result (c.len.ensures ∙ c.args.path.now.0.ok.0) c.if-len-le255.true
-    (c.names-fit.ensures ∙ ap (λ xs. every name_fits (map name_of xs)) c.deref.ensures.value)
+    few_pass name_of name_fits (vec_items c.args.path.now.0) c.len.result c.names_fit.result (c.len.ensures ∙ c.args.path.now.0.ok.0) c.if-len-le255.true
+    (c.names_fit.ensures ∙ ap (λ xs. every name_fits (map name_of xs)) c.deref.ensures.value)
 
 pub returns-else-len-le255 : goal.returns-else-len-le255
 returns-else-len-le255 c =

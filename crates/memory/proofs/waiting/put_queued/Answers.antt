@@ -2,8 +2,8 @@ use Rattle.std.proofs.Common.{◌≡◌, ℕ, ◌+◌, ◌≤◌, length, set, r
 use Rattle.memory.proofs.Waits.{slot_below, Filled, filled, waits_still, queue_more}
 use Rattle.memory.proofs.waiting.put_queued.Goals as goal
 
-pub write-at-requires : goal.write-at-requires
-write-at-requires c =
+pub write_at-requires : goal.write_at-requires
+write_at-requires c =
     let q = slot_below c.args.kept.slot (8 + c.args.by) 15 (omega (arith, c.requires.there)) in omega (arith, c.requires.sound.slots.inside, c.requires.fits)
 
 pub returns : goal.returns
@@ -13,9 +13,9 @@ returns c =
     let ends = c.args.memory.now.ends.now in
     let calls = c.args.memory.now.calls.now in
     let call = c.args.call.now in
-    let is = c.write-at.new.out in
+    let is = c.write_at.new.out in
     let seven : length k.queue ≡ 7 = search rules in
-    let w = filled k.slot ends calls (8 + c.args.by) call is s.slots (omega (arith, c.requires.there)) c.requires.fits c.write-at.ensures in
+    let w = filled k.slot ends calls (8 + c.args.by) call is s.slots (omega (arith, c.requires.there)) c.requires.fits c.write_at.ensures in
     record {
       queued = λ room. queue_more room k.slot ends calls call (set ends (8 + c.args.by) (length call)) is c.args.by k.queue c.args.queued seven c.requires.there w;
       waiting = λ room. waits_still room k.slot ends calls call (set ends (8 + c.args.by) (length call)) is k.first k.count (8 + c.args.by) k.numbers s.first (omega arith) w;

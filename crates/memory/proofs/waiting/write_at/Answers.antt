@@ -4,4 +4,4 @@ use Rattle.memory.proofs.Waits.{put_at}
 use Rattle.memory.proofs.waiting.write_at.Goals as goal
 
 pub returns : goal.returns
-returns c = put_at c.args.at _ c.args.out.now _ c.args.bytes.now c.copy-from-slice.ensures.after (omega arith) (omega (arith, c.requires)) (search (rules, overwrites))
+returns c = put_at c.args.at _ c.args.out.now _ c.args.bytes.now c.copy_from_slice.ensures.after (omega arith) (omega (arith, c.requires)) (search (rules, overwrites))

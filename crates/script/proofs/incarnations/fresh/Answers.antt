@@ -9,9 +9,9 @@ pub returns-then-most-lt18446744073709551615 : goal.returns-then-most-lt18446744
 returns-then-most-lt18446744073709551615 c =
     record {
       is =
-          ap (λ (n : ℕ). Some (n + 1)) c.highest-of-most.ensures
+          ap (λ (n : ℕ). Some (n + 1)) c.highest_of-most.ensures
           ∙ sym
           (cond-true (ltb (highest 0 c.args.drawn.now) 18446744073709551615) (Some (highest 0 c.args.drawn.now + 1)) None
-          (lt-ltb (highest 0 c.args.drawn.now) 18446744073709551615 (omega (arith, c.highest-of-most.ensures, c.if-most-lt18446744073709551615.true))));
-      new = ap (λ (n : ℕ). was_there (n + 1) c.args.drawn.now) c.highest-of-most.ensures ∙ one_more_is_new c.args.drawn.now;
+          (lt-ltb (highest 0 c.args.drawn.now) 18446744073709551615 (omega (arith, c.highest_of-most.ensures, c.if-most-lt18446744073709551615.true))));
+      new = ap (λ (n : ℕ). was_there (n + 1) c.args.drawn.now) c.highest_of-most.ensures ∙ one_more_is_new c.args.drawn.now;
     }

@@ -7,7 +7,7 @@ use Rattle.script.specs.declared.network.Letter.{Letter}
 use Rattle.script.specs.Network.{is_on, contents}
 use Rattle.script.proofs.Kept.{keep_none, next_yes, next_no}
 use Rattle.script.proofs.network.copies.Goals as goal
-use Rattle.script.proofs.network.copies.Goals.{then-is-on+in-ok-copy+in-ok-push, else-is-on}
+use Rattle.script.proofs.network.copies.Goals.{then-is_on+in_ok-copy+in_ok-push, else-is_on}
 
 pub loop-letter-init : goal.loop-letter-init
 loop-letter-init c = ap (map contents) (c.new-taken.ensures.items ∙ sym (keep_none (is_on c.args.link)))
@@ -19,23 +19,23 @@ returns c =
 
 pub loop-letter-preserved : goal.loop-letter-preserved
 loop-letter-preserved c =
-    elim c.if-is-on.branch [
-      | then-is-on+in-ok-copy+in-ok-push w ↦
+    elim c.if-is_on.branch [
+      | then-is_on+in_ok-copy+in_ok-push w ↦
           ap (λ (v : Vec Letter Global). map contents (vec_items v)) w.taken-is
-          ∙ (ap (map contents) w.in-ok-push.ensures.items
+          ∙ (ap (map contents) w.in_ok-push.ensures.items
           ∙ (map_push contents (vec_items c.loop-letter.taken) _
-          ∙ (ap (λ (xs : List (ℕ × (ℕ × List ℕ))). xs ++ (contents w.in-ok-copy.field-0 ∷ [])) c.loop-letter.invariant
-          ∙ (ap (λ (y : ℕ × (ℕ × List ℕ)). map contents (keep (is_on c.args.link) (take c.loop-letter.letter-index c.args.letters.now)) ++ (y ∷ [])) w.in-ok-copy.ensures
+          ∙ (ap (λ (xs : List (ℕ × (ℕ × List ℕ))). xs ++ (contents w.in_ok-copy.field-0 ∷ [])) c.loop-letter.invariant
+          ∙ (ap (λ (y : ℕ × (ℕ × List ℕ)). map contents (keep (is_on c.args.link) (take c.loop-letter.letter-index c.args.letters.now)) ++ (y ∷ [])) w.in_ok-copy.ensures
           ∙ (sym (map_push contents (keep (is_on c.args.link) (take c.loop-letter.letter-index c.args.letters.now)) c.letter-item.result)
           ∙ ap (map contents)
           (sym
           (next_yes (is_on c.args.link) c.args.letters.now c.loop-letter.letter-index c.letter-item.result c.loop-letter-test.true c.letter-item.is
-          (sym w.if-is-on.ensures))))))))
-      | else-is-on w ↦
+          (sym w.if-is_on.ensures))))))))
+      | else-is_on w ↦
           ap (λ (v : Vec Letter Global). map contents (vec_items v)) w.taken-is
           ∙ (c.loop-letter.invariant
           ∙ ap (map contents)
           (sym
           (next_no (is_on c.args.link) c.args.letters.now c.loop-letter.letter-index c.letter-item.result c.loop-letter-test.true c.letter-item.is
-          (sym w.if-is-on.ensures))))
+          (sym w.if-is_on.ensures))))
     ]

@@ -10,20 +10,20 @@ use Rattle.script.proofs.network.part.Goals as goal
 
 pub loop-letter-init : goal.loop-letter-init
 loop-letter-init c =
-    let all = into_iter_items c.into-iter-letter-iterator.result in (
+    let all = into_iter_items c.into_iter-letter-iterator.result in (
       ap (λ (xs : List Letter). xs ++ keep (is_on c.args.link) all) (sym c.new-taken.ensures.items),
       ap (λ (xs : List Letter). xs ++ keep (is_off c.args.link) all) (sym c.new-left.ensures.items),
     )
 
-pub loop-letter-preserved-in-Continue· : goal.loop-letter-preserved-in-Continue·
-loop-letter-preserved-in-Continue· c =
-    let on = sym c.if-is-on.ensures in
+pub loop-letter-preserved-in-Continue-1 : goal.loop-letter-preserved-in-Continue-1
+loop-letter-preserved-in-Continue-1 c =
+    let on = sym c.if-is_on.ensures in
     let step = c.in-Some.ensures.steps.0 in (
       takes (is_on c.args.link) _ (vec_items c.loop-letter.taken) (into_iter_items c.loop-letter.letter-iterator) (into_iter_items c.next.new.self) c.in-Some.letter
           c.loop-letter.invariant.0
           step
           on
-          ∙ ap (λ (xs : List Letter). xs ++ keep (is_on c.args.link) (into_iter_items c.next.new.self)) (sym c.in-ok-push.ensures.items),
+          ∙ ap (λ (xs : List Letter). xs ++ keep (is_on c.args.link) (into_iter_items c.next.new.self)) (sym c.in_ok-push.ensures.items),
       leaves (is_off c.args.link) _ (vec_items c.loop-letter.left) (into_iter_items c.loop-letter.letter-iterator) (into_iter_items c.next.new.self) c.in-Some.letter
           c.loop-letter.invariant.1
           step
@@ -32,7 +32,7 @@ loop-letter-preserved-in-Continue· c =
 
 pub loop-letter-preserved : goal.loop-letter-preserved
 loop-letter-preserved c =
-    let off = sym c.if-is-on.ensures in
+    let off = sym c.if-is_on.ensures in
     let step = c.in-Some.ensures.steps.0 in (
       leaves (is_on c.args.link) _ (vec_items c.loop-letter.taken) (into_iter_items c.loop-letter.letter-iterator) (into_iter_items c.next.new.self) c.in-Some.letter
           c.loop-letter.invariant.0
@@ -42,13 +42,13 @@ loop-letter-preserved c =
           c.loop-letter.invariant.1
           step
           (ap not off)
-          ∙ ap (λ (xs : List Letter). xs ++ keep (is_off c.args.link) (into_iter_items c.next.new.self)) (sym c.in-ok-push-2.ensures.items),
+          ∙ ap (λ (xs : List Letter). xs ++ keep (is_off c.args.link) (into_iter_items c.next.new.self)) (sym c.in_ok-push-2.ensures.items),
     )
 
 pub returns : goal.returns
 returns c =
     let none = nil_from_length (into_iter_items c.loop-letter.letter-iterator) (sym c.loop-letter.letter-iterator.rest.ok.0 ∙ c.in-None.ensures.steps.0) in
-    let whole = c.into-iter-letter-iterator.ensures.into-iter-gives.0 in (
+    let whole = c.into_iter-letter-iterator.ensures.into_iter_gives.0 in (
       ends (is_on c.args.link) _ (vec_items c.loop-letter.taken) (into_iter_items c.loop-letter.letter-iterator) c.loop-letter.invariant.0 none ∙ ap (keep (is_on c.args.link)) whole,
       ends (is_off c.args.link) _ (vec_items c.loop-letter.left) (into_iter_items c.loop-letter.letter-iterator) c.loop-letter.invariant.1 none ∙ ap (keep (is_off c.args.link)) whole,
     )

@@ -5,4 +5,4 @@ use Rattle.service.proofs.answering.say_done.Goals as goal
 
 pub returns : goal.returns
 unfolding encode_reply many_written
-returns c = said _ c.args.out.now _ c.append-bytes.new.out c.append-bytes.result c.append-bytes.ensures.added c.requires refl
+returns c = said _ c.args.out.now _ c.append_bytes.new.out c.append_bytes.result c.append_bytes.ensures.added c.requires refl

@@ -5,9 +5,9 @@ use Rattle.calls.specs.declared.types.Call.{Call}
 use Rattle.calls.specs.Reading.{call_of}
 use Rattle.service.proofs.asking.ask_call.Goals as goal
 
-pub ask-one-requires : goal.ask-one-requires
+pub ask_one-requires : goal.ask_one-requires
 unfolding core
-ask-one-requires c = search rules
+ask_one-requires c = search rules
 
 -- opening and ending are not of the core
 pub returns-in-Open : goal.returns-in-Open

@@ -7,11 +7,11 @@ use Rattle.service.specs.Asking.{AskedAs}
 use Rattle.service.proofs.Ranges.{some_act, the_act, plain_act}
 use Rattle.service.proofs.asking.ask_one.Goals as goal
 
-pub returns-in-default : goal.returns-in-default
-returns-in-default c = absurd (some_act c.args.count c.args.acts.now c.requires.spells c.requires.one c.in-default.ensures)
+pub returns-in_default : goal.returns-in_default
+returns-in_default c = absurd (some_act c.args.count c.args.acts.now c.requires.spells c.requires.one c.in_default.ensures)
 
-pub ask-act-requires : goal.ask-act-requires
-ask-act-requires c =
+pub ask_act-requires : goal.ask_act-requires
+ask_act-requires c =
     let a = c.in-Some.read.act in
     let is = the_act c.args.count c.args.acts.now (act_of a) c.in-Some.read.rest.now c.requires.spells c.requires.one c.in-Some.ensures.0 in
     record { spells = c.in-Some.ensures.1; plain = plain_act a.kind (path_of a.path.now) a.value.now (ap one (sym is) ∙ c.requires.one) }
@@ -20,4 +20,4 @@ pub returns : goal.returns
 returns c =
     let a = c.in-Some.read.act in
     let is = the_act c.args.count c.args.acts.now (act_of a) c.in-Some.read.rest.now c.requires.spells c.requires.one c.in-Some.ensures.0 in
-    subst (λ (as' : List Act). AskedAs (LetIn (Do as')) c.ask-act.result) (sym is) c.ask-act.ensures
+    subst (λ (as' : List Act). AskedAs (LetIn (Do as')) c.ask_act.result) (sym is) c.ask_act.ensures

@@ -12,4 +12,4 @@ pub returns-in-None : goal.returns-in-None
 returns-in-None c =
     let v = c.args.value.now in
     let h = c.in-None.ensures in
-    sym (and_from (leb (length v) 65536) (every (λ (b : ℕ). ltb b 256) v) (le-leb (length v) 65536 (omega (arith, h))) (every_all v (All-from_get_or (λ b. b < 256) v 0 (λ i l. (c.type-inv.value i).fits))))
+    sym (and_from (leb (length v) 65536) (every (λ (b : ℕ). ltb b 256) v) (le-leb (length v) 65536 (omega (arith, h))) (every_all v (All-from_get_or (λ b. b < 256) v 0 (λ i l. (c.type_inv.value i).fits))))

@@ -3,8 +3,8 @@ use Rattle.std.proofs.lemmas.Slice.{overwrites}
 use Rattle.serving.proofs.Said.{part_said}
 use Rattle.serving.proofs.answering.say_behind.Goals as goal
 
-pub returns-in-default : goal.returns-in-default
-returns-in-default c = record { said = search rules; before = search (rules, overwrites) }
+pub returns-in_default : goal.returns-in_default
+returns-in_default c = record { said = search rules; before = search (rules, overwrites) }
 
 pub returns : goal.returns
 returns c =

@@ -6,8 +6,8 @@ use Rattle.memory.proofs.Sides.{unmoved_left, unmoved_right}
 use Rattle.serving.proofs.Doings.{wrote_as, did_left, did_right}
 use Rattle.serving.proofs.doing.do_call.Goals as goal
 
-pub write-call-written-requires : goal.write-call-written-requires
-write-call-written-requires c =
+pub write_call-written-requires : goal.write_call-written-requires
+write_call-written-requires c =
     let q : state_of c.tree-last.result.bytes.now c.tree-last.result.places.now ≡ state_in c.args.kept c.args.memory.now = search rules in
     record { holds = c.tree-last.ensures.holds; fits = c.tree-last.ensures.fits; calm = subst Calm (sym q) c.requires.calm; suits = search rules; writes = search rules }
 
@@ -18,14 +18,14 @@ returns-then-kept c =
     let s = c.requires.sound in
     let e : k.second ≡ true = search rules in
     let q : state_of c.tree-last.result.bytes.now c.tree-last.result.places.now ≡ state_in k m = search rules in
-    let a : length c.write-call-written.new.out ≡ length m.left.now = search rules in
-    let b : length c.write-call-written.new.places ≡ length m.left_places.now = search rules in
-    did_left k m _ c.to-left-kept.result (slot_at k m c.args.slot) c.write-call-written.result
+    let a : length c.write_call-written.new.out ≡ length m.left.now = search rules in
+    let b : length c.write_call-written.new.places ≡ length m.left_places.now = search rules in
+    did_left k m _ c.to_left-kept.result (slot_at k m c.args.slot) c.write_call-written.result
     (unmoved_left k m _ s e refl refl refl refl a b s.right)
-    c.to-left-kept.ensures (wrote_as k.room _ _ _ _ _ _ _ c.call-at-call.ensures q c.write-call-written.ensures)
+    c.to_left-kept.ensures (wrote_as k.room _ _ _ _ _ _ _ c.call_at-call.ensures q c.write_call-written.ensures)
 
-pub write-call-written-requires-2 : goal.write-call-written-requires-2
-write-call-written-requires-2 c =
+pub write_call-written-requires-2 : goal.write_call-written-requires-2
+write_call-written-requires-2 c =
     let q : state_of c.tree-last-2.result.bytes.now c.tree-last-2.result.places.now ≡ state_in c.args.kept c.args.memory.now = search rules in
     record { holds = c.tree-last-2.ensures.holds; fits = c.tree-last-2.ensures.fits; calm = subst Calm (sym q) c.requires.calm; suits = search rules; writes = search rules }
 
@@ -36,8 +36,8 @@ returns c =
     let s = c.requires.sound in
     let e : k.second ≡ false = search rules in
     let q : state_of c.tree-last-2.result.bytes.now c.tree-last-2.result.places.now ≡ state_in k m = search rules in
-    let a : length c.write-call-written-2.new.out ≡ length m.right.now = search rules in
-    let b : length c.write-call-written-2.new.places ≡ length m.right_places.now = search rules in
-    did_right k m _ c.to-right-kept.result (slot_at k m c.args.slot) c.write-call-written-2.result
+    let a : length c.write_call-written-2.new.out ≡ length m.right.now = search rules in
+    let b : length c.write_call-written-2.new.places ≡ length m.right_places.now = search rules in
+    did_right k m _ c.to_right-kept.result (slot_at k m c.args.slot) c.write_call-written-2.result
     (unmoved_right k m _ s e refl refl refl refl a b s.left)
-    c.to-right-kept.ensures (wrote_as k.room _ _ _ _ _ _ _ c.call-at-call-2.ensures q c.write-call-written-2.ensures)
+    c.to_right-kept.ensures (wrote_as k.room _ _ _ _ _ _ _ c.call_at-call-2.ensures q c.write_call-written-2.ensures)

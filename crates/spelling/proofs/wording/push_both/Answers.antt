@@ -7,5 +7,5 @@ use Rattle.spelling.proofs.wording.push_both.Goals as goal
 
 pub returns : goal.returns
 returns c =
-    three_parts (vec_items c.args.out.now) (path_spelled (path_of c.args.path.now)) (codes " ") (value_spelled c.args.value.now) c.in-ok-push-path.ensures c.in-ok-push-text.ensures
-    c.in-ok-push-value.ensures
+    three_parts (vec_items c.args.out.now) (path_spelled (path_of c.args.path.now)) (codes " ") (value_spelled c.args.value.now) c.in_ok-push_path.ensures c.in_ok-push_text.ensures
+    c.in_ok-push_value.ensures

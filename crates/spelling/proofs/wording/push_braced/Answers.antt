@@ -7,5 +7,5 @@ use Rattle.spelling.proofs.wording.push_braced.Goals as goal
 
 pub returns : goal.returns
 returns c =
-    three_parts (vec_items c.args.out.now) (codes "do {") (many piece_spelled (map act_of c.args.acts.now)) (codes " }") c.in-ok-push-text.ensures c.in-ok-push-pieces.ensures
-    c.in-ok-push-text-2.ensures
+    three_parts (vec_items c.args.out.now) (codes "do {") (many piece_spelled (map act_of c.args.acts.now)) (codes " }") c.in_ok-push_text.ensures c.in_ok-push_pieces.ensures
+    c.in_ok-push_text-2.ensures

@@ -11,7 +11,7 @@ loop-c-init c = sym (append-nil _)
 
 pub loop-c-preserved : goal.loop-c-preserved
 loop-c-preserved c =
-    c.in-ok-push-char.ensures
+    c.in_ok-push_char.ensures
     ∙ (ap (λ (xs : List ℕ). xs ++ char_spelled c.args.quoted (get_or c.args.chars.now c.loop-c.c-index 0)) c.loop-c.invariant
     ∙ chars_more (char_spelled c.args.quoted) (vec_items c.args.out.now) c.args.chars.now c.loop-c.c-index c.loop-c-test.true)
 

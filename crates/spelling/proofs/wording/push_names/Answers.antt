@@ -13,7 +13,7 @@ loop-name-init c = sym (append-nil _)
 
 pub loop-name-preserved : goal.loop-name-preserved
 loop-name-preserved c =
-    c.in-ok-push-slash-name.ensures
+    c.in_ok-push_slash_name.ensures
     ∙ (ap (λ (xs : List ℕ). xs ++ name_spelled (name_of c.name-item.result)) c.loop-name.invariant
     ∙ written_more name_of (many name_spelled) name_spelled (many_push name_spelled) (vec_items c.args.out.now) c.args.names.now c.loop-name.name-index c.name-item.result c.loop-name-test.true c.name-item.is)
 

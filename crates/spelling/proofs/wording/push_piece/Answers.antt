@@ -7,5 +7,5 @@ use Rattle.spelling.proofs.wording.push_piece.Goals as goal
 
 pub returns : goal.returns
 returns c =
-    three_parts (vec_items c.args.out.now) (codes " ") (act_spelled (act_of c.args.act.now)) (codes ";") c.in-ok-push-text.ensures c.in-ok-push-act.ensures
-    c.in-ok-push-text-2.ensures
+    three_parts (vec_items c.args.out.now) (codes " ") (act_spelled (act_of c.args.act.now)) (codes ";") c.in_ok-push_text.ensures c.in_ok-push_act.ensures
+    c.in_ok-push_text-2.ensures

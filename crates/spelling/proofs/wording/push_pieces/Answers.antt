@@ -13,7 +13,7 @@ loop-act-init c = sym (append-nil _)
 
 pub loop-act-preserved : goal.loop-act-preserved
 loop-act-preserved c =
-    c.in-ok-push-piece.ensures
+    c.in_ok-push_piece.ensures
     ∙ (ap (λ (xs : List ℕ). xs ++ piece_spelled (act_of c.act-item.result)) c.loop-act.invariant
     ∙ written_more act_of (many piece_spelled) piece_spelled (many_push piece_spelled) (vec_items c.args.out.now) c.args.acts.now c.loop-act.act-index c.act-item.result c.loop-act-test.true c.act-item.is)
 

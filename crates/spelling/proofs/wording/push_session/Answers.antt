@@ -6,5 +6,5 @@ use Rattle.spelling.proofs.wording.push_session.Goals as goal
 
 pub returns : goal.returns
 returns c =
-    two_parts (vec_items c.args.out.now) (codes " session ") (decimal c.args.session.0) c.in-ok-push-text.ensures c.in-ok-push-decimal.ensures
+    two_parts (vec_items c.args.out.now) (codes " session ") (decimal c.args.session.0) c.in_ok-push_text.ensures c.in_ok-push_decimal.ensures
     ∙ ap (λ (xs : List ℕ). vec_items c.args.out.now ++ xs) (sym (cond-false (eqb c.args.session.0 0) [] (codes " session " ++ decimal c.args.session.0) (ne_eqb c.args.session.0 0 c.if-session-eq0.false)))

@@ -7,5 +7,5 @@ use Rattle.spelling.proofs.wording.push_slash_name.Goals as goal
 
 pub returns : goal.returns
 returns c =
-    two_parts (vec_items c.args.out.now) (codes "/") (chars_spelled false (name_of c.args.name.now)) c.in-ok-push-text.ensures
-    (c.in-ok-push-name.ensures ∙ ap (λ (xs : List ℕ). vec_items c.push-text.new.out ++ chars_spelled false xs) c.deref.ensures.value)
+    two_parts (vec_items c.args.out.now) (codes "/") (chars_spelled false (name_of c.args.name.now)) c.in_ok-push_text.ensures
+    (c.in_ok-push_name.ensures ∙ ap (λ (xs : List ℕ). vec_items c.push_text.new.out ++ chars_spelled false xs) c.deref.ensures.value)

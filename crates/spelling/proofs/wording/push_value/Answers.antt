@@ -6,5 +6,5 @@ use Rattle.spelling.proofs.wording.push_value.Goals as goal
 
 pub returns : goal.returns
 returns c =
-    three_parts (vec_items c.args.out.now) (codes "\"") (chars_spelled true c.args.value.now) (codes "\"") c.in-ok-push-text.ensures c.in-ok-push-chars.ensures
-    c.in-ok-push-text-2.ensures
+    three_parts (vec_items c.args.out.now) (codes "\"") (chars_spelled true c.args.value.now) (codes "\"") c.in_ok-push_text.ensures c.in_ok-push_chars.ensures
+    c.in_ok-push_text-2.ensures

@@ -8,5 +8,5 @@ use Rattle.turning.proofs.changes.heard_from.Goals as goal
 pub returns : goal.returns
 returns c =
     let t = c.args.turn in
-    let e = c.heard-from.ensures in
-    changed_turn (λ room. heard_from c.args.j) t c.«with».result c.heard-from.result c.«with».ensures (record { id = ap (λ (a : Agreement). a.accepted) e; places = ap (λ (a : Agreement). a.places) e }) (λ room m i. mind_of room (record { agreement = e i; kept = t.house.kept }) m)
+    let e = c.heard_from.ensures in
+    changed_turn (λ room. heard_from c.args.j) t c.«with».result c.heard_from.result c.«with».ensures (record { id = ap (λ (a : Agreement). a.accepted) e; places = ap (λ (a : Agreement). a.places) e }) (λ room m i. mind_of room (record { agreement = e i; kept = t.house.kept }) m)

@@ -4,9 +4,9 @@ use Rattle.std.proofs.lemmas.List.{take_all, take_rest, append-nil}
 use Rattle.words.proofs.WordSteps.{word_ends, behind_begins, word_goes_on, behind_goes_on, word_all, behind_none}
 use Rattle.words.proofs.reading.cut_word.Goals as goal
 
-pub returns-then-is-end : goal.returns-then-is-end
-returns-then-is-end c =
-    let ended = sym c.if-is-end.ensures in
+pub returns-then-is_end : goal.returns-then-is_end
+returns-then-is_end c =
+    let ended = sym c.if-is_end.ensures in
     record {
       word =
           ap (λ (n : ℕ). take n c.args.text.now) (let e : c.loop-i.i - 0 ≡ c.loop-i.i = omega arith in e)
@@ -18,7 +18,7 @@ returns-then-is-end c =
 
 pub loop-i-preserved : goal.loop-i-preserved
 loop-i-preserved c =
-    let on = sym c.if-is-end.ensures in (
+    let on = sym c.if-is_end.ensures in (
       c.loop-i.invariant.0 ∙ word_goes_on c.args.text.now c.loop-i.i c.loop-i-test.true on,
       c.loop-i.invariant.1 ∙ behind_goes_on c.args.text.now c.loop-i.i c.loop-i-test.true on,
     )

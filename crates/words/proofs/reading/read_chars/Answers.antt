@@ -4,19 +4,19 @@ use Rattle.words.specs.Words.{many_while, is_over, char_at}
 use Rattle.words.proofs.Many.{before, many_over, many_end, many_wrong, many_more}
 use Rattle.words.proofs.reading.read_chars.Goals as goal
 
-pub returns-then-is-over : goal.returns-then-is-over
-returns-then-is-over c =
+pub returns-then-is_over : goal.returns-then-is_over
+returns-then-is_over c =
     c.loop.invariant
     ∙ many_over (is_over c.args.quoted) char_at (vec_items c.loop.chars) c.loop.rest.now (length c.args.text.now - c.loop.counter)
-    (sym c.if-is-over.ensures)
+    (sym c.if-is_over.ensures)
 
-pub returns-in-default : goal.returns-in-default
-returns-in-default c =
+pub returns-in_default : goal.returns-in_default
+returns-in_default c =
     c.loop.invariant
     ∙ many_wrong (is_over c.args.quoted) char_at (vec_items c.loop.chars) c.loop.rest.now (length c.args.text.now) c.loop.counter
     c.loop-test.true
-    (sym c.if-is-over.ensures)
-    (sym c.in-default.ensures)
+    (sym c.if-is_over.ensures)
+    (sym c.in_default.ensures)
 
 pub loop-preserved : goal.loop-preserved
 loop-preserved c =
@@ -24,10 +24,10 @@ loop-preserved c =
     ∙ (many_more (is_over c.args.quoted) char_at (vec_items c.loop.chars) c.loop.rest.now (length c.args.text.now) c.loop.counter c.in-Some.c
     c.in-Some.next.now
     c.loop-test.true
-    (sym c.if-is-over.ensures)
+    (sym c.if-is_over.ensures)
     (sym c.in-Some.ensures)
     ∙ ap (λ (xs : List ℕ). before xs (many_while (is_over c.args.quoted) char_at (length c.args.text.now - (c.loop.counter + 1)) c.in-Some.next.now))
-    (sym c.in-ok-push.ensures.items))
+    (sym c.in_ok-push.ensures.items))
 
 pub returns : goal.returns
 returns c =
