@@ -13,22 +13,13 @@ invariant_of-alone c =
     let now' : vec_items c.turned-used.result.1 ≡ pick (vec_items c.args.self.tree) c.answer_at-desk.new.next (size_by c.answer_at-desk.result.1) = (pick_holds c.args.self.tree (with_items c.args.self.next c.answer_at-desk.new.next) c.turned-used.result.1 (vec_items c.args.self.tree) c.answer_at-desk.new.next c.outcome-said.result.1 (size_by c.answer_at-desk.result.1) refl (with_items_is c.args.self.next c.answer_at-desk.new.next (c.answer_at-desk.auto.next ∙ c.as_mut_slice.ensures.len)) c.turned-used.ensures.1 c.outcome-said.ensures.1) in
     let other : vec_items c.turned-used.result.2 ≡ pick c.answer_at-desk.new.next (vec_items c.args.self.tree) (size_by c.answer_at-desk.result.1) = (pick_holds (with_items c.args.self.next c.answer_at-desk.new.next) c.args.self.tree c.turned-used.result.2 c.answer_at-desk.new.next (vec_items c.args.self.tree) c.outcome-said.result.1 (size_by c.answer_at-desk.result.1) (with_items_is c.args.self.next c.answer_at-desk.new.next (c.answer_at-desk.auto.next ∙ c.as_mut_slice.ensures.len)) refl c.turned-used.ensures.2 c.outcome-said.ensures.1) in
     let long : c.turned-used.result.0 ≡ used_by c.args.self.used (size_by c.answer_at-desk.result.1) = (c.turned-used.ensures.0 ∙ ap (used_by c.args.self.used) c.outcome-said.ensures.1) in
-    let is = turned_is c.args.self.room c.args.self.used c.args.call.now (take (c.args.self.used - 0) c.as_slice.result.now) (vec_items c.args.self.tree) (vec_items c.answer_at-desk.result.0.last) c.answer_at-desk.new.next (vec_items c.answer_at-desk.result.0.places) (vec_items c.answer_at-desk.result.0.reply) (front_of c.args.self.used c.as_slice.result.now (vec_items c.args.self.tree) c.as_slice.ensures.value) c.args.self.is c.args.self.inside c.answer_at-desk.result.1 c.answer_at-desk.ensures.answered in (
-      (λ i. is_tree c.args.self.room (take (long i) (now' i))) ∙ is.0,
-      (
-        omega (arith, is.1, long, ap length now'),
-        (
-          subst (λ (l : List ℕ). Roomy c.args.self.room l (vec_items c.answer_at-desk.result.0.last)) (sym now') (picked (λ (l : List ℕ). Roomy c.args.self.room l (vec_items c.answer_at-desk.result.0.last)) (vec_items c.args.self.tree) c.answer_at-desk.new.next (size_by c.answer_at-desk.result.1) (still_roomy c.args.self.room (vec_items c.args.self.tree) (vec_items c.args.self.tree) (vec_items c.args.self.desk.last) (vec_items c.answer_at-desk.result.0.last) (vec_items c.args.self.tree) (vec_items c.args.self.desk.last) refl c.answer_at-desk.ensures.long.0 c.args.self.first c.args.self.first) (still_roomy c.args.self.room (vec_items c.args.self.next) c.answer_at-desk.new.next (vec_items c.args.self.desk.last) (vec_items c.answer_at-desk.result.0.last) (vec_items c.args.self.tree) (vec_items c.args.self.desk.places) ((c.answer_at-desk.auto.next ∙ c.as_mut_slice.ensures.len) ∙ c.args.self.next.ok.0) c.answer_at-desk.ensures.long.0 c.args.self.second c.args.self.first)),
-          (
-            subst (λ (l : List ℕ). Roomy c.args.self.room l (vec_items c.answer_at-desk.result.0.places)) (sym other) (picked (λ (l : List ℕ). Roomy c.args.self.room l (vec_items c.answer_at-desk.result.0.places)) c.answer_at-desk.new.next (vec_items c.args.self.tree) (size_by c.answer_at-desk.result.1) (still_roomy c.args.self.room (vec_items c.args.self.next) c.answer_at-desk.new.next (vec_items c.args.self.desk.places) (vec_items c.answer_at-desk.result.0.places) (vec_items c.args.self.next) (vec_items c.args.self.desk.places) ((c.answer_at-desk.auto.next ∙ c.as_mut_slice.ensures.len) ∙ c.args.self.next.ok.0) c.answer_at-desk.ensures.long.1 c.args.self.second c.args.self.second) (still_roomy c.args.self.room (vec_items c.args.self.tree) (vec_items c.args.self.tree) (vec_items c.args.self.desk.places) (vec_items c.answer_at-desk.result.0.places) (vec_items c.args.self.next) (vec_items c.args.self.desk.last) refl c.answer_at-desk.ensures.long.1 c.args.self.first c.args.self.second)),
-            (
-              still_speaks c.args.self.room c.args.self.said c.outcome-said.result.0 (vec_items c.args.self.desk.reply) (vec_items c.answer_at-desk.result.0.reply) c.answer_at-desk.ensures.long.2 (omega (arith, c.outcome-said.ensures.0, turned_said c.args.self.room c.args.self.used c.args.call.now (take (c.args.self.used - 0) c.as_slice.result.now) (vec_items c.args.self.tree) (vec_items c.answer_at-desk.result.0.last) c.answer_at-desk.new.next (vec_items c.answer_at-desk.result.0.places) (vec_items c.answer_at-desk.result.0.reply) (front_of c.args.self.used c.as_slice.result.now (vec_items c.args.self.tree) c.as_slice.ensures.value) c.answer_at-desk.result.1 c.answer_at-desk.ensures.answered)) c.args.self.speaks,
-              tt,
-            ),
-          ),
-        ),
-      ),
-    )
+    let is = turned_is c.args.self.room c.args.self.used c.args.call.now (take (c.args.self.used - 0) c.as_slice.result.now) (vec_items c.args.self.tree) (vec_items c.answer_at-desk.result.0.last) c.answer_at-desk.new.next (vec_items c.answer_at-desk.result.0.places) (vec_items c.answer_at-desk.result.0.reply) (front_of c.args.self.used c.as_slice.result.now (vec_items c.args.self.tree) c.as_slice.ensures.value) c.args.self.is c.args.self.inside c.answer_at-desk.result.1 c.answer_at-desk.ensures.answered in record {
+      is = (λ i. is_tree c.args.self.room (take (long i) (now' i))) ∙ is.0;
+      inside = omega (arith, is.1, long, ap length now');
+      first = subst (λ (l : List ℕ). Roomy c.args.self.room l (vec_items c.answer_at-desk.result.0.last)) (sym now') (picked (λ (l : List ℕ). Roomy c.args.self.room l (vec_items c.answer_at-desk.result.0.last)) (vec_items c.args.self.tree) c.answer_at-desk.new.next (size_by c.answer_at-desk.result.1) (still_roomy c.args.self.room (vec_items c.args.self.tree) (vec_items c.args.self.tree) (vec_items c.args.self.desk.last) (vec_items c.answer_at-desk.result.0.last) (vec_items c.args.self.tree) (vec_items c.args.self.desk.last) refl c.answer_at-desk.ensures.long.0 c.args.self.first c.args.self.first) (still_roomy c.args.self.room (vec_items c.args.self.next) c.answer_at-desk.new.next (vec_items c.args.self.desk.last) (vec_items c.answer_at-desk.result.0.last) (vec_items c.args.self.tree) (vec_items c.args.self.desk.places) ((c.answer_at-desk.auto.next ∙ c.as_mut_slice.ensures.len) ∙ c.args.self.next.ok.0) c.answer_at-desk.ensures.long.0 c.args.self.second c.args.self.first));
+      second = subst (λ (l : List ℕ). Roomy c.args.self.room l (vec_items c.answer_at-desk.result.0.places)) (sym other) (picked (λ (l : List ℕ). Roomy c.args.self.room l (vec_items c.answer_at-desk.result.0.places)) c.answer_at-desk.new.next (vec_items c.args.self.tree) (size_by c.answer_at-desk.result.1) (still_roomy c.args.self.room (vec_items c.args.self.next) c.answer_at-desk.new.next (vec_items c.args.self.desk.places) (vec_items c.answer_at-desk.result.0.places) (vec_items c.args.self.next) (vec_items c.args.self.desk.places) ((c.answer_at-desk.auto.next ∙ c.as_mut_slice.ensures.len) ∙ c.args.self.next.ok.0) c.answer_at-desk.ensures.long.1 c.args.self.second c.args.self.second) (still_roomy c.args.self.room (vec_items c.args.self.tree) (vec_items c.args.self.tree) (vec_items c.args.self.desk.places) (vec_items c.answer_at-desk.result.0.places) (vec_items c.args.self.next) (vec_items c.args.self.desk.last) refl c.answer_at-desk.ensures.long.1 c.args.self.first c.args.self.second));
+      speaks = still_speaks c.args.self.room c.args.self.said c.outcome-said.result.0 (vec_items c.args.self.desk.reply) (vec_items c.answer_at-desk.result.0.reply) c.answer_at-desk.ensures.long.2 (omega (arith, c.outcome-said.ensures.0, turned_said c.args.self.room c.args.self.used c.args.call.now (take (c.args.self.used - 0) c.as_slice.result.now) (vec_items c.args.self.tree) (vec_items c.answer_at-desk.result.0.last) c.answer_at-desk.new.next (vec_items c.answer_at-desk.result.0.places) (vec_items c.answer_at-desk.result.0.reply) (front_of c.args.self.used c.as_slice.result.now (vec_items c.args.self.tree) c.as_slice.ensures.value) c.answer_at-desk.result.1 c.answer_at-desk.ensures.answered)) c.args.self.speaks;
+    }
 
 pub returns : goal.returns
 returns c =

@@ -15,22 +15,13 @@ invariant_of-result c =
     let first =
     written c.min-room.result c.start_blank-size.new.out c.start_blank-size.new.places c.start_blank-size.result c.start_blank-size.ensures.drafts
     (subst (Fits c.min-room.result) (sym c.start_blank-size.ensures.state) (blank_fits c.min-room.result)) in
-    let same = with_items_is c.in_ok-tree.tree c.start_blank-size.new.out (c.start_blank-size.auto.out ∙ c.as_mut_slice.ensures.len) in (
-      ap (λ (l : List ℕ). is_tree c.min-room.result (take c.start_blank-size.result.used l)) same ∙ first.0,
-      (
-        omega (arith, c.start_blank-size.ensures.drafts.inside, ap length same),
-        (
-          enough c.min-room.result (vec_items (with_items c.in_ok-tree.tree c.start_blank-size.new.out)) (vec_items (with_items c.in_ok-last.last c.start_blank-size.new.places)) (same_length c.in_ok-tree.tree c.start_blank-size.new.out ∙ (sym c.in_ok-tree.tree.ok.0 ∙ c.in_ok-tree.ensures.len)) (same_length c.in_ok-last.last c.start_blank-size.new.places ∙ (sym c.in_ok-last.last.ok.0 ∙ c.in_ok-last.ensures.len)) (omega (arith, c.min-room.ensures)),
-          (
-            enough c.min-room.result (vec_items c.in_ok-next.next) (vec_items c.in_ok-places.places) (sym c.in_ok-next.next.ok.0 ∙ c.in_ok-next.ensures.len) (sym c.in_ok-places.places.ok.0 ∙ c.in_ok-places.ensures.len) (omega (arith, c.min-room.ensures)),
-            (
-              speaking c.min-room.result (vec_items c.in_ok-reply.reply) (sym c.in_ok-reply.reply.ok.0 ∙ c.in_ok-reply.ensures.len) (omega (arith, c.min-room.ensures)),
-              tt,
-            ),
-          ),
-        ),
-      ),
-    )
+    let same = with_items_is c.in_ok-tree.tree c.start_blank-size.new.out (c.start_blank-size.auto.out ∙ c.as_mut_slice.ensures.len) in record {
+      is = ap (λ (l : List ℕ). is_tree c.min-room.result (take c.start_blank-size.result.used l)) same ∙ first.0;
+      inside = omega (arith, c.start_blank-size.ensures.drafts.inside, ap length same);
+      first = enough c.min-room.result (vec_items (with_items c.in_ok-tree.tree c.start_blank-size.new.out)) (vec_items (with_items c.in_ok-last.last c.start_blank-size.new.places)) (same_length c.in_ok-tree.tree c.start_blank-size.new.out ∙ (sym c.in_ok-tree.tree.ok.0 ∙ c.in_ok-tree.ensures.len)) (same_length c.in_ok-last.last c.start_blank-size.new.places ∙ (sym c.in_ok-last.last.ok.0 ∙ c.in_ok-last.ensures.len)) (omega (arith, c.min-room.ensures));
+      second = enough c.min-room.result (vec_items c.in_ok-next.next) (vec_items c.in_ok-places.places) (sym c.in_ok-next.next.ok.0 ∙ c.in_ok-next.ensures.len) (sym c.in_ok-places.places.ok.0 ∙ c.in_ok-places.ensures.len) (omega (arith, c.min-room.ensures));
+      speaks = speaking c.min-room.result (vec_items c.in_ok-reply.reply) (sym c.in_ok-reply.reply.ok.0 ∙ c.in_ok-reply.ensures.len) (omega (arith, c.min-room.ensures));
+    }
 
 pub returns : goal.returns
 returns c =
