@@ -1,23 +1,22 @@
 -- ABREAST: whatever happens, whatever is held, queued or said counts at most one call more of a replica that is up than it answered (Ahead); and what it holds itself counts no fewer. So the oldest call that waits either is counted by what its replica holds, or is the next to be counted.
-use Rattle.std.proofs.Common.{◌≡◌, ℕ, zero, suc, ◌+◌, ◌<◌, ◌≤◌, Bool, true, false, cond, not, ◌&&◌, ◌||◌, eqb, ◌⊎◌, List, [], ◌∷◌, ◌++◌, length, get_or, set, Some, None, Option, sym, refl, ap, ◌∙◌, subst, inl, inr, ⊎_elim, arith, T_not}
+use Rattle.std.proofs.Common.{◌≡◌, ℕ, suc, ◌<◌, ◌≤◌, false, eqb, List, [], ◌∷◌, length, Some, None, Option, sym, refl, ap, ◌∙◌, subst, inl, inr, ⊎_elim, arith, T_not}
 use mathlib.Core.List.Memᴰ
 use mathlib.Core.List.{Memᴰ}
 use Rattle.std.proofs.lemmas.Bool.{cond_both, cases_eq}
-use Rattle.runs.specs.Replicas.{Letter, Does, Says, Gives, Whole', posted, House, there, gone, Scene, Seen, Said, Call', Beat, at, is_in, New, Goes, first, hears, is_asked, beats, falls, wakes, turned, with_call, woken, fallen}
+use Rattle.runs.specs.Replicas.{Letter, Does, Says, Gives, Whole', posted, there, gone, Scene, Seen, Said, Call', Beat, at, is_in, New, Goes, first, hears, is_asked, beats, falls, wakes, turned, with_call, woken, fallen}
 use Rattle.agreement.specs.declared.Place.{Place}
-use Rattle.agreement.specs.Content.{Service, Proposal, rank, id_of, root, place_at, roster, fresh_place, seven}
-use Rattle.agreement.specs.Log.{Event, asks, At, age_in, world, Ok, Log, begins, goes_on}
-use Rattle.agreement.specs.Machine.{Msg, Prepare, Promise, Propose, Alive, Accepted, Join, Forward, Forwarded, Waiting, Mind, accepted, Turn, still, then_do, forward, serve, is_full, comes_in, wait_or_not, quick_or_not, turn, woke, code}
+use Rattle.agreement.specs.Content.{Service, Proposal, rank, place_at, roster, fresh_place}
+use Rattle.agreement.specs.Log.{Event, asks, At, age_in, world, Ok, Log, goes_on}
+use Rattle.agreement.specs.Machine.{Msg, Prepare, Promise, Propose, Alive, Accepted, Join, Forward, Waiting, Mind, accepted, Turn, then_do, forward, serve, is_full, comes_in, wait_or_not, quick_or_not, turn, woke, code}
 use Rattle.agreement.proofs.Age.{age_stays}
 use Rattle.agreement.proofs.Seven.{get_seven}
 use Rattle.agreement.proofs.Scenes.{at_same, at_other, un_there}
 use Rattle.agreement.proofs.History.{drawn, pledge_made}
-use Rattle.agreement.proofs.Inv.{AnsweredTo, unanswered, answered_by, MindInv, WordInv, LetterInv}
-use Rattle.agreement.proofs.Moves.{chosen_made}
+use Rattle.agreement.proofs.Inv.{AnsweredTo, unanswered, answered_by, MindInv, WordInv}
 use Rattle.agreement.proofs.Changes.{none_some}
 use Rattle.agreement.proofs.Runs.{Rel, run, calls_rise, from_here}
 use Rattle.agreement.proofs.CameIn.{Kept, forward_counts, serve_counts, hears_counts, on_beat_counts}
-use Rattle.agreement.proofs.Ahead.{NextAt, NextIn, NextSaid, NextCalls, NextOf, Fine, hears_fine, quick_or_not_fine, on_beat_fine}
+use Rattle.agreement.proofs.Ahead.{NextAt, NextIn, NextSaid, NextOf, hears_fine, quick_or_not_fine, on_beat_fine}
 
 module _ {sv : Service} where
   -- k is at most the next call of y at the replica j, if that is up

@@ -1,8 +1,8 @@
 -- When an incarnation of a replica was drawn: what was drawn stays so, and no two are of one age.
-use Rattle.std.proofs.Common.{◌≡◌, ℕ, zero, suc, ◌+◌, ◌*◌, ◌/◌, ◌%◌, ◌<◌, ◌≤◌, max, Bool, true, false, cond, ◌&&◌, eqb, ◌⊎◌, List, [], ◌∷◌, length, sym, refl, ap, ◌∙◌, subst, inl, inr, arith}
+use Rattle.std.proofs.Common.{◌≡◌, ℕ, suc, ◌<◌, ◌≤◌, true, eqb, List, [], ◌∷◌, length, refl, ap, inl, inr, arith}
 use Rattle.std.proofs.lemmas.Bool.Decides.{nat_tests}
 use Rattle.std.proofs.lemmas.Bool.{or_left, or_right, eq-eqb}
-use Rattle.agreement.specs.Log.{Event, makes, votes, pledges, draws, asks, ask_of, is_used, AsksOk, Log, begins, goes_on, age_in, top, pledge_of, vote_of, made_of, At, Ok}
+use Rattle.agreement.specs.Log.{Event, makes, votes, pledges, draws, asks, ask_of, is_used, age_in, top, pledge_of, vote_of, made_of, At, Ok}
 use Rattle.agreement.specs.Content.{Service, Proposal, id_of, view_of, leader_of, inc_of}
 
 pub age_below : {sv : Service} (h : List (Event sv)) (s x : ℕ) → age_in h s x ≤ suc (length h)

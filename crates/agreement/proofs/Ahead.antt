@@ -1,16 +1,13 @@
 -- ONE CALL AHEAD: whatever is held, queued or said counts or asks for at most one call more of a replica than that replica answered. Here for a turn of one replica; G j y k says that k is at most the next call of the incarnation y at the replica j.
 -- What a turn holds, queues and says comes from what was held, queued and heard, from a join, which counts no call, or from the own oldest call, which is the next one.
-use Rattle.std.proofs.Common.{◌≡◌, ℕ, zero, suc, ◌+◌, ◌*◌, ◌<◌, ◌≤◌, Bool, true, false, cond, not, ◌&&◌, ◌||◌, eqb, ltb, leb, ◌⊎◌, List, [], ◌∷◌, ◌++◌, length, get_or, set, is_some, Some, None, Option, sym, refl, ap, ◌∙◌, subst, inl, inr, ⊎_elim, arith}
-use mathlib.Core.List.{Memᴰ}
+use Rattle.std.proofs.Common.{◌≡◌, ℕ, zero, suc, ◌≤◌, Bool, true, false, cond, not, ◌&&◌, ◌||◌, eqb, ltb, List, [], ◌∷◌, ◌++◌, length, get_or, set, is_some, Some, None, Option, sym, refl, ◌∙◌, subst, ⊎_elim, arith}
 use Rattle.std.specs.Option.{option_or}
 use Rattle.std.proofs.lemmas.Bool.{cond_both, and_parts, eqb-true}
 use Rattle.runs.specs.Replicas.{Does, Says, Gives, Whole'}
-use Rattle.agreement.specs.declared.View.{View}
 use Rattle.agreement.specs.declared.ProposalId.{ProposalId}
 use Rattle.agreement.specs.declared.Joining.{Joining}
-use Rattle.agreement.specs.declared.Place.{Place}
-use Rattle.agreement.specs.Content.{Service, Content, Proposal, limit, rank, place_at, roster, fresh_place, seven, called, joined}
-use Rattle.agreement.specs.Machine.{has_promise, repeats, is_self, Msg, Prepare, Promise, Propose, Alive, Accepted, Join, Forward, is_member, is_candidate, is_leader, Forwarded, Waiting, Mind, accepted, content_of, names, counts, quorum, Turn, still, says, then_do, to_each, word_to, alive_to, tell, tell_all, tell_done, own_call, forward_head, forward, may_answer, reply_to, hands, answer_head, answer, with_waiting, learned, learn, Job, DoCall, DoJoin, call_fits, join_fits, call_job, join_job, after, first_from, own_head, join_at, call_at, first_of, next_job, proposes, copy_in, making, next_of, job_of, with_job, with_joins, with_calls, with_patience, with_heard, does, may_serve, serve, is_settled, settle, lead, elect, is_higher, higher, reported, same_view, takes_up, hold, welcome, enter, entering, anew, is_below, is_own, may_promise, is_mine, promised, on_prepare, on_promise, follows, is_named, implied, may_hold, is_late, hold_or_not, keeping, offered, take_or_not, leads, on_propose, holds, is_welcome, is_stale, alive_here, alive_there, on_alive, heard_from, counted, count_vote, on_accepted, on_join, on_forward, is_full, comes_in, wait_or_not, quick_or_not, may_stand, ask_all, stand, standing, own_view, without_jobs, say_again, has_job, stand_or_not, ticks, on_beat, hears}
+use Rattle.agreement.specs.Content.{Service, Proposal, limit, rank, place_at, roster, fresh_place, seven, called, joined}
+use Rattle.agreement.specs.Machine.{Msg, Prepare, Promise, Propose, Alive, Accepted, Join, Forward, is_member, is_candidate, is_leader, Forwarded, Waiting, Mind, accepted, content_of, names, counts, quorum, Turn, still, says, then_do, to_each, word_to, tell, tell_all, tell_done, forward_head, forward, may_answer, reply_to, hands, answer_head, answer, learned, Job, DoCall, DoJoin, call_fits, join_fits, call_job, join_job, after, first_from, own_head, join_at, call_at, first_of, next_job, proposes, copy_in, making, next_of, job_of, with_job, with_joins, with_calls, with_patience, with_heard, does, may_serve, serve, is_settled, settle, elect, is_higher, higher, reported, same_view, takes_up, hold, welcome, entering, anew, is_below, is_own, may_promise, is_mine, on_prepare, on_promise, follows, is_named, implied, may_hold, is_late, hold_or_not, offered, take_or_not, leads, on_propose, holds, is_welcome, is_stale, alive_here, alive_there, on_alive, count_vote, on_accepted, on_join, on_forward, is_full, comes_in, wait_or_not, quick_or_not, may_stand, ask_all, standing, own_view, without_jobs, say_again, has_job, stand_or_not, ticks, on_beat, hears}
 use Rattle.agreement.proofs.Seven.{get_seven}
 use Rattle.agreement.proofs.Changes.{none_some, un_some, set_is, cleared_is}
 use Rattle.agreement.proofs.Jobs.{set_place, called_places}
@@ -97,7 +94,7 @@ module _ {sv : Service} (G : ℕ → ℕ → ℕ → Type 0) where
 
     ask_all_fine : Keeps ask_all
     unfolding ask_all
-    ask_all_fine m me v le = (v, said_each i _ (λ j. cond_both (has_promise m j) _ _ (NextSaid i) (λ _. tt) (λ _. (tt, tt))) m.agreement.all)
+    ask_all_fine m me v le = (v, said_each i _ (λ j. cond_both (eqb j m.agreement.me || counts m.agreement.votes m.agreement.places j) _ _ (NextSaid i) (λ _. tt) (λ _. (tt, tt))) m.agreement.all)
 
     -- the own oldest call is the next
     own_next : (m : Mind sv) → Mine m → m.agreement.no ≤ N → G i m.agreement.incarnation (suc m.agreement.no)
@@ -165,11 +162,11 @@ module _ {sv : Service} (G : ℕ → ℕ → ℕ → Type 0) where
     next_fine : (m : Mind sv) → Mine m → NextOf m → m.agreement.no ≤ N → SomeNext (accepted m) (next_job m)
     next_fine m me v le =
         or_next (accepted m) (first_of (join_at m) m) (first_of (call_at m) m) (first_next (accepted m) (join_at m) (λ j. join_next (accepted m) j (get_or m.agreement.joins j None)) _ _ _)
-        (first_next (accepted m) (call_at m) (λ j. call_next (accepted m) j (cond (is_self m j) (own_head m.waiting m) (get_or m.calls j None)) (asked j)) _ _ _)
+        (first_next (accepted m) (call_at m) (λ j. call_next (accepted m) j (cond (eqb j m.agreement.me) (own_head m.waiting m) (get_or m.calls j None)) (asked j)) _ _ _)
       where
-        asked : (j : ℕ) (a : Forwarded sv) → cond (is_self m j) (own_head m.waiting m) (get_or m.calls j None) ≡ Some a → G j a.incarnation a.no
+        asked : (j : ℕ) (a : Forwarded sv) → cond (eqb j m.agreement.me) (own_head m.waiting m) (get_or m.calls j None) ≡ Some a → G j a.incarnation a.no
         asked j a =
-            cond_both (is_self m j) _ _ (λ (o : Option (Forwarded sv)). o ≡ Some a → G j a.incarnation a.no)
+            cond_both (eqb j m.agreement.me) _ _ (λ (o : Option (Forwarded sv)). o ≡ Some a → G j a.incarnation a.no)
             (λ e q. subst (λ (z : ℕ). G z a.incarnation a.no) (sym (eqb-true _ _ e ∙ me.0)) (own_head_next m me le m.waiting a q)) (λ _ q. v.1 j a q)
 
     does_fine : (o : Option (Job sv)) (m : Mind sv) → Mine m → NextOf m → SomeNext (accepted m) o → Fine (does o m)
@@ -260,7 +257,7 @@ module _ {sv : Service} (G : ℕ → ℕ → ℕ → Type 0) where
 
     say_again_fine : Keeps say_again
     unfolding say_again
-    say_again_fine m me v = cond_both (repeats m) _ _ Fine (λ _. tell_all_fine m me v) (λ _. cond_both (is_candidate m.agreement.role) _ _ Fine (λ _. ask_all_fine m me v) (λ _ le. (v, tt)))
+    say_again_fine m me v = cond_both (is_leader m.agreement.role) _ _ Fine (λ _. tell_all_fine m me v) (λ _. cond_both (is_candidate m.agreement.role) _ _ Fine (λ _. ask_all_fine m me v) (λ _ le. (v, tt)))
 
     stand_or_not_fine : Keeps stand_or_not
     unfolding stand_or_not

@@ -1,15 +1,12 @@
 -- One replica alone: it leads the first view for ever, whatever it holds is chosen, each call is answered in the turn in which it comes, and it never falls. So nothing ever waits.
-use Rattle.std.proofs.Common.{◌≡◌, ℕ, zero, suc, ◌+◌, ◌-◌, ◌*◌, ◌<◌, ◌≤◌, Bool, true, false, cond, not, ◌&&◌, ◌||◌, eqb, ltb, leb, ◌⊎◌, List, [], ◌∷◌, ◌++◌, length, get_or, set, is_some, Some, None, Option, sym, refl, ap, ◌∙◌, subst, inl, inr, ⊎_elim, arith}
+use Rattle.std.proofs.Common.{◌≡◌, ℕ, suc, ◌+◌, ◌*◌, ◌<◌, ◌≤◌, Bool, true, false, not, ◌&&◌, eqb, ltb, List, [], ◌∷◌, ◌++◌, Some, None, Option, sym, refl, ap, ◌∙◌, subst, arith}
 use mathlib.Core.List.Memᴰ
 use mathlib.Core.List.{Memᴰ}
-use Rattle.std.specs.Option.{option_or}
-use Rattle.std.proofs.lemmas.Bool.{cond_both, eq-eqb, lt-ltb, cases_eq, cases_Bool, true≢false, false≢true}
-use Rattle.runs.specs.Replicas.{Comes, Said, Call', Beat, Does, Says, Gives, Letter, House, there, gone, Scene, Seen, at, given, posted, whole, how_many, Goes, first, hears, is_asked, beats, falls, wakes, turned, with_call}
+use Rattle.std.proofs.lemmas.Bool.{eq-eqb, lt-ltb}
+use Rattle.runs.specs.Replicas.{Does, Gives, Letter, there, gone, Scene, Seen, at, posted, whole, how_many, Goes, first, hears, is_asked, beats, falls, wakes, turned, with_call}
 use Rattle.agreement.specs.declared.Role.TheVariants.{Leader}
-use Rattle.agreement.specs.declared.Place.{Place}
-use Rattle.agreement.specs.declared.Agreement.{Agreement}
 use Rattle.agreement.specs.Content.{Service, limit, seven, first_view, fresh_place}
-use Rattle.agreement.specs.Machine.{Msg, Mind, Turn, ticks, then_do, to_each, tell_all, forward_head, hands, answer_head, first_from, own_head, does, serve, wait_or_not, quick_or_not, on_call, say_again, stand_or_not, on_beat, turn, woke, code}
+use Rattle.agreement.specs.Machine.{Msg, Mind, Turn, ticks, then_do, to_each, tell_all, forward_head, hands, answer_head, first_from, own_head, does, serve, wait_or_not, quick_or_not, on_call, say_again, stand_or_not, on_beat, turn, code}
 use Rattle.agreement.specs.Steady.{Steady}
 use Rattle.agreement.proofs.Scenes.{at_same, un_there}
 use Rattle.agreement.proofs.Slowly.{sized}
@@ -92,7 +89,7 @@ module _ {sv : Service} (st : Steady sv) where
       turned_lone n s (turned (code sv) i x ws) l vs pt hd jb q k c o a b (at_same i (there x.mind) ws.house 0 (sym z) ∙ ap (λ (y : Turn sv). there y.mind) e) (ap (λ (l : List (Letter (Msg sv))). l ++ ws.letters) y ∙ g) (at_same i (ws.frail i && not (whole x.does)) ws.frail 0 (sym z) ∙ ap (λ (b : Bool). b && not (whole x.does)) (ap (λ (w : ℕ → Bool). w i) f ∙ (ap s.frail z ∙ l.whole')))
 
   -- every run of one replica that is not too long
-  pub alone : {n : ℕ} {es : List (Seen sv.O sv.R)} {s : Scene (Mind sv) (Msg sv)} → Goes (code sv) 1 n es s → n < 144115188075855872 → Lone n s
+  pub alone : {n : ℕ} {es : List (Seen sv.O sv.R)} {s : Scene (Mind sv) (Msg sv)} → Goes (code sv) 1 n es s → n < st.most + 256 → Lone n s
   unfolding posted turn how_many
   alone first short = record { votes = seven None; patience = 6; heard = seven false; job = None; seq = 0; no = 0; state = sv.clerk.start; kept = None; up = refl; letters = refl; whole' = refl; few = omega arith; calls = omega arith }
   alone (hears {s = s} i m l lt g e d to) short = absurd (Memᴰ.not-nil (subst (Memᴰ l) (alone g (omega (arith, short))).letters d))
@@ -100,7 +97,7 @@ module _ {sv : Service} (st : Steady sv) where
       let l = alone g (omega (arith, short)) in let z = zero_only i lt in let is : m ≡ lone sv l.votes l.patience l.heard l.job l.seq l.no l.state l.kept = un_there _ _ (sym e ∙ (ap s.house z ∙ l.up)) in
       subst (λ (y : Mind sv). Lone (suc n) (turned (code sv) i (on_call k o y) (with_call i k s))) (sym is) (called' n s l i k o z short ((bounded (sized st) 1 g).minds 0 _ l.up).held.state)
     where
-      called' : (n : ℕ) (s : Scene (Mind sv) (Msg sv)) (l : Lone n s) (i k : ℕ) (o : sv.O) → i ≡ 0 → suc n < 144115188075855872 → st.size l.state ≤ 64 * n → Lone (suc n) (turned (code sv) i (on_call k o (lone sv l.votes l.patience l.heard l.job l.seq l.no l.state l.kept)) (with_call i k s))
+      called' : (n : ℕ) (s : Scene (Mind sv) (Msg sv)) (l : Lone n s) (i k : ℕ) (o : sv.O) → i ≡ 0 → suc n < st.most + 256 → st.size l.state ≤ 64 * n → Lone (suc n) (turned (code sv) i (on_call k o (lone sv l.votes l.patience l.heard l.job l.seq l.no l.state l.kept)) (with_call i k s))
       called' n s l i k o z short small = by (sv.quick o) refl (sv.is_read o) refl
         where
           by : (q : Option sv.R) → sv.quick o ≡ q → (b : Bool) → sv.is_read o ≡ b → Lone (suc n) (turned (code sv) i (on_call k o (lone sv l.votes l.patience l.heard l.job l.seq l.no l.state l.kept)) (with_call i k s))

@@ -1,15 +1,12 @@
 -- What a group does by itself is a run: so all that holds of runs holds on the way. One stretch after another is one stretch. Nobody becomes frail; what waits goes on waiting, or is answered; no replica has more calls waiting than before.
-use Rattle.std.proofs.Common.{◌≡◌, ℕ, zero, suc, ◌+◌, ◌*◌, ◌<◌, ◌≤◌, Bool, true, false, cond, not, ◌&&◌, ◌||◌, eqb, ltb, leb, ◌⊎◌, List, [], ◌∷◌, ◌++◌, length, sym, refl, ap, ◌∙◌, subst, inl, inr, ⊎_elim, append_assoc, arith}
+use Rattle.std.proofs.Common.{◌≡◌, ℕ, Bool, false, ◌&&◌, eqb, ◌⊎◌, List, [], ◌∷◌, ◌++◌, sym, refl, ap, ◌∙◌, subst, inl, inr, ⊎_elim, append_assoc}
 use mathlib.Core.List.Memᴰ
 use mathlib.Core.List.{Memᴰ}
-use Rattle.std.proofs.lemmas.Bool.{cond_both, and_parts, eqb-true, cases_eq, cases_Bool, true≢false, false≢true}
-use Rattle.runs.specs.Replicas.{Comes, Said, Call', Beat, Code, Letter, Does, Says, Gives, Whole', House, there, gone, Scene, Seen, asked, gave, Waits, at, posted, given, whole, without, answered_off, New, Goes, first, hears, is_asked, beats, falls, wakes, turned, woken}
+use Rattle.std.proofs.lemmas.Bool.{cond_both, and_parts, eqb-true, cases_eq}
+use Rattle.runs.specs.Replicas.{Said, Beat, Code, Letter, Does, Says, Gives, Whole', Scene, Seen, gave, Waits, at, posted, given, without, answered_off, Goes}
 use Rattle.runs.specs.Progress.{Among, stay, talk, beat, wake}
 use Rattle.runs.proofs.Kept.{among_goes}
-use Rattle.agreement.specs.Content.{Service}
-use Rattle.agreement.specs.Machine.{Msg, Waiting, Mind, Turn, turn, woke, code}
-use Rattle.agreement.specs.Steady.{Steady}
-use Rattle.agreement.proofs.Scenes.{at_same, at_other, un_there}
+use Rattle.agreement.proofs.Scenes.{at_same, at_other}
 
 -- a turn of i
 frail_turn : {A M : Type 0} (s : Scene A M) (i j : ℕ) (b : Bool) → s.frail j ≡ false → (j ≡ i) ⊎ (j ≡ i → ⊥) → at i (s.frail i && b) s.frail j ≡ false

@@ -1,13 +1,13 @@
 -- ANSWERING: a replica of the group that leads answers its oldest call. If what it holds counts that call already, it answers when that is chosen; else it does the call next, and answers when that is chosen.
-use Rattle.std.proofs.Common.{◌≡◌, ℕ, zero, suc, ◌+◌, ◌-◌, ◌*◌, ◌<◌, ◌≤◌, Bool, true, false, cond, not, ◌&&◌, ◌||◌, eqb, ltb, leb, ◌⊎◌, List, [], ◌∷◌, ◌++◌, length, get_or, set, Some, None, Option, sym, refl, ap, ◌∙◌, subst, inl, inr, ⊎_elim, arith}
+use Rattle.std.proofs.Common.{◌≡◌, ℕ, suc, ◌+◌, ◌*◌, ◌<◌, ◌≤◌, true, false, ◌&&◌, eqb, ltb, List, ◌∷◌, length, get_or, set, Some, None, Option, sym, refl, ap, ◌∙◌, subst, ⊎_elim, arith}
 use mathlib.Core.List.{Memᴰ}
-use Rattle.std.proofs.lemmas.Bool.{cond_both, cond-true, cond-false, cases_eq, cases_Bool, true≢false, and_from, and_right, and_left, eq-eqb, ne_eqb, lt-ltb}
-use Rattle.runs.specs.Replicas.{Letter, Scene, Seen, Does, Says, there, turned, Goes}
+use Rattle.std.proofs.lemmas.Bool.{cond_both, cond-true, cases_eq, cases_Bool, true≢false, and_from, and_right, eq-eqb, ne_eqb, lt-ltb}
+use Rattle.runs.specs.Replicas.{Scene, Seen, Says, there, turned, Goes}
 use Rattle.runs.specs.Progress.{Among, Enough}
 use Rattle.agreement.specs.declared.View.{View}
 use Rattle.agreement.specs.declared.Place.{Place}
-use Rattle.agreement.specs.Content.{Service, Lawful, Content, Proposal, limit, id_of, seven, place_in, place_at, roster, called, FitProposal}
-use Rattle.agreement.specs.Machine.{Msg, Propose, Waiting, Mind, accepted, content_of, is_member, names, Turn, still, forward, may_answer, say_kept, reply_to, hands, answer_head, answer, learned, making, call_fits, own_call, with_calls, with_waiting, job_of, next_of, proposes, may_serve, serve, then_do, code}
+use Rattle.agreement.specs.Content.{Service, Content, Proposal, limit, seven, place_in, place_at, roster, called, FitProposal}
+use Rattle.agreement.specs.Machine.{Msg, Propose, Waiting, Mind, accepted, content_of, names, Turn, still, may_answer, say_kept, reply_to, hands, answer_head, answer, learned, making, call_fits, own_call, with_calls, with_waiting, job_of, next_of, proposes, serve, then_do, code}
 use Rattle.agreement.specs.Steady.{Steady}
 use Rattle.agreement.specs.Log.{Event, asks, At, Log}
 use Rattle.agreement.proofs.Scenes.{un_there}
@@ -19,9 +19,9 @@ use Rattle.agreement.proofs.Inv.{Lined, MindInv}
 use Rattle.agreement.proofs.LastDone.{LastDone, last_done}
 use Rattle.agreement.proofs.Abreast.{one_ahead, not_behind}
 use Rattle.agreement.proofs.Among.{among_goes_here}
-use Rattle.agreement.proofs.Stages.{Low, Follows, Elected, low_more}
-use Rattle.agreement.proofs.Steps.{Reaches, rel_at, house_here, house_there}
-use Rattle.agreement.proofs.Rounds.{Leads, Beside, Settled, follows_still, polled, settling, round, named_by}
+use Rattle.agreement.proofs.Stages.{Low, Elected, low_more}
+use Rattle.agreement.proofs.Steps.{rel_at, house_here, house_there}
+use Rattle.agreement.proofs.Rounds.{Leads, Settled, follows_still, polled, settling, round, named_by}
 use Rattle.agreement.proofs.Settling.{answer_not, settling_mind, settling_serves, proposes_mind, proposes_says, serve_onward, settling_onward, called_size}
 use Rattle.agreement.proofs.NextJob.{serve_call}
 use Rattle.agreement.proofs.Phases.{leads_elected, leads_next, Bounded, low_end, bounded_same, bounded_follows}
@@ -94,7 +94,7 @@ module _ {sv : Service} (st : Steady sv) (all : ℕ) (two : 2 ≤ all) (small : 
 
   -- IT IS NOT COUNTED yet: i does it next
   module _ (d : ℕ) (le : b ≤ d) (t : Scene (Mind sv) (Msg sv)) (m : Mind sv) (a : Leads st all group s i d t m) (others : (y : ℕ) → s.frail y ≡ true → t.house y ≡ s.house y) (w : Waiting sv) (ws : List (Waiting sv)) (ow : m.waiting ≡ w ∷ ws)
-      (exact : (place_at (accepted m) i).no ≡ m.agreement.no) (js : m.agreement.joins ≡ seven None) (cs : m.calls ≡ seven None) (sq : suc m.agreement.accepted.seq < limit) (nb : suc m.agreement.no < limit) (calm : st.size m.state < 9223372036854775808) where
+      (exact : (place_at (accepted m) i).no ≡ m.agreement.no) (js : m.agreement.joins ≡ seven None) (cs : m.calls ≡ seven None) (sq : suc m.agreement.accepted.seq < limit) (nb : suc m.agreement.no < limit) (calm : st.size m.state < 64 * (st.most + 256)) where
     self : (m.agreement.me ≡ i) × (m.agreement.all ≡ all) × (m.agreement.turn < all)
     self = let (h, r) = rel_at all group s small go t a.came in let v = r.replicas i m il a.up in (v.0.who.me, v.0.who.all', v.1.turn)
 
@@ -151,7 +151,7 @@ module _ {sv : Service} (st : Steady sv) (all : ℕ) (two : 2 ≤ all) (small : 
 kept_of : {sv : Service} (all : ℕ) (h : List (Event sv)) → Log all h → (i : ℕ) (c : Content sv) (x k t n : ℕ) (o : sv.O) → (place_in c i).incarnation ≡ x → (place_in c i).no ≡ k → At h t (asks i x k n o) → LastDone h i c → sv.is_read o ≡ false → (q : sv.K) × (get_or c.outcomes i None ≡ Some q)
 kept_of {sv} all h lg i c x k t n o ex ek a d f = d.kept (ap sv.is_read (ask_once all h lg d.time t i x k d.number n d.call o (subst (λ (z : ℕ). At h d.time (asks i x z d.number d.call)) ek (subst (λ (z : ℕ). At h d.time (asks i z (place_in c i).no d.number d.call)) ex d.asked)) a).1 ∙ f)
 
-module _ {sv : Service} (st : Steady sv) (all : ℕ) (two : 2 ≤ all) (small : all ≤ 7) (group : List ℕ) {n : ℕ} {es : List (Seen sv.O sv.R)} (s : Scene (Mind sv) (Msg sv)) (go : Goes (code sv) all n es s) (b : ℕ) (low : Low st all group b s) (most : b < 144115188075855871) (en : Enough all group s)
+module _ {sv : Service} (st : Steady sv) (all : ℕ) (two : 2 ≤ all) (small : all ≤ 7) (group : List ℕ) {n : ℕ} {es : List (Seen sv.O sv.R)} (s : Scene (Mind sv) (Msg sv)) (go : Goes (code sv) all n es s) (b : ℕ) (low : Low st all group b s) (most : b < st.most + 255) (en : Enough all group s)
     (i : ℕ) (m : Mind sv) (il : i < all) (ig : Memᴰ i group) (iw : s.frail i ≡ false) (iu : s.house i ≡ there m) (w : Waiting sv) (ws : List (Waiting sv)) (ow : m.waiting ≡ w ∷ ws) (e : Elected st all group b s i m) where
   leads_first : Leads st all group s i (suc b) e.scene e.mind
   leads_first = leads_elected st all two small group s go i il iw b m e
@@ -184,7 +184,7 @@ module _ {sv : Service} (st : Steady sv) (all : ℕ) (two : 2 ≤ all) (small : 
       uncounted : ((place_at (accepted e.mind) i).no ≡ suc e.mind.agreement.no → ⊥) → Answers st all two small group s go b low en i il ig iw (suc (suc (suc b))) (suc (length ws))
       uncounted q = answers_uncounted st all two small group s go b low en i il ig iw (suc b) (omega arith) e.scene e.mind leads_first e.others w ws (e.waiting ∙ ow) (let l = low' in let h = high' in omega arith) e.joins e.calls (omega (arith, e.seq)) (omega (arith, e.no, low.calls i m il ig iu)) (omega (arith, e.size))
 
-pub answering : {sv : Service} (st : Steady sv) (all : ℕ) → 2 ≤ all → all ≤ 7 → (group : List ℕ) {n : ℕ} {es : List (Seen sv.O sv.R)} (s : Scene (Mind sv) (Msg sv)) → Goes (code sv) all n es s → (b : ℕ) → Low st all group b s → b < 144115188075855871 → Enough all group s →
+pub answering : {sv : Service} (st : Steady sv) (all : ℕ) → 2 ≤ all → all ≤ 7 → (group : List ℕ) {n : ℕ} {es : List (Seen sv.O sv.R)} (s : Scene (Mind sv) (Msg sv)) → Goes (code sv) all n es s → (b : ℕ) → Low st all group b s → b < st.most + 255 → Enough all group s →
     (i : ℕ) (m : Mind sv) → i < all → Memᴰ i group → s.frail i ≡ false → s.house i ≡ there m → (w : Waiting sv) (ws : List (Waiting sv)) → m.waiting ≡ w ∷ ws → Elected st all group b s i m →
     (fs : List (Seen sv.O sv.R)) × (t : Scene (Mind sv) (Msg sv)) × Among (code sv) all group s fs t × Low st all group (3 + b) t × (o : Mind sv) × (t.house i ≡ there o) × (length o.waiting < length m.waiting)
 answering st all two small group s go b low most en i m il ig iw iu w ws ow e =

@@ -1,12 +1,12 @@
 -- In a run of n steps no number is above n: views promised, held or said, calls answered and waiting at a replica, incarnations drawn; and each state is one that n calls or fewer may have led to (what that is, is given: Follow). And whatever waits, waits at a replica that is up and has it.
-use Rattle.std.proofs.Common.{◌≡◌, ℕ, zero, suc, ◌+◌, ◌*◌, ◌<◌, ◌≤◌, Bool, true, false, cond, not, ◌&&◌, ◌||◌, eqb, ltb, leb, ◌⊎◌, List, [], ◌∷◌, ◌++◌, length, sym, refl, ap, ◌∙◌, subst, inl, inr, ⊎_elim, arith}
+use Rattle.std.proofs.Common.{◌≡◌, ℕ, suc, ◌+◌, ◌<◌, ◌≤◌, Bool, eqb, ◌⊎◌, List, [], ◌∷◌, ◌++◌, length, sym, ap, ◌∙◌, subst, inl, inr, ⊎_elim, arith}
 use mathlib.Core.List.{Memᴰ}
 use Rattle.std.proofs.lemmas.Bool.{cond_both, eqb-false, cases_eq}
-use Rattle.runs.specs.Replicas.{Comes, Said, Call', Beat, Letter, Does, Says, Gives, Whole', House, there, gone, Scene, Seen, asked, gave, Waits, at, posted, given, without, answered_off, left_by, Goes, first, hears, is_asked, beats, falls, wakes, turned, with_call, woken, fallen}
+use Rattle.runs.specs.Replicas.{Said, Call', Beat, Letter, Does, Says, Gives, Whole', there, gone, Scene, Seen, Waits, at, posted, without, answered_off, left_by, Goes, first, hears, is_asked, beats, falls, wakes, woken, fallen}
 use Rattle.agreement.specs.Content.{Service}
 use Rattle.agreement.specs.Machine.{Msg, Waiting, Mind, Turn, turn, woke, code}
 use Rattle.agreement.proofs.Scenes.{at_same, at_other, un_there}
-use Rattle.agreement.proofs.Waits.{Wait, without_in, off_in, gone_from}
+use Rattle.agreement.proofs.Waits.{Wait, off_in, gone_from}
 use Rattle.agreement.proofs.CameIn.{Kept, fewer_wait, hears_counts, on_beat_counts}
 use Rattle.agreement.proofs.Slowly.{Follow, LowWord, AllLow, Tops, tops_more, word_more, StillOrGiven, Slow, Came, low_in, hears_slow, on_beat_slow, on_call_came}
 

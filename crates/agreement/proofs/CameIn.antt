@@ -1,14 +1,12 @@
 -- What no turn changes of a replica: who it is; and, but for a call that comes in, how many calls came in, those that it answered and those that wait together. The number of those answered only rises.
 -- So among themselves replicas keep a bound of it, and no more calls come to wait.
-use Rattle.std.proofs.Common.{◌≡◌, ℕ, zero, suc, ◌+◌, ◌<◌, ◌≤◌, Bool, true, false, cond, not, ◌&&◌, ◌||◌, eqb, ltb, leb, ◌⊎◌, List, [], ◌∷◌, ◌++◌, length, get_or, set, Some, None, Option, sym, refl, ap, ◌∙◌, subst, inl, inr, ⊎_elim, arith}
-use Rattle.std.proofs.lemmas.Bool.{cond_both, cases_eq, and_left}
-use Rattle.runs.specs.Replicas.{Scene, Seen, Said, Beat, there, at}
+use Rattle.std.proofs.Common.{◌≡◌, ℕ, suc, ◌+◌, ◌≤◌, Bool, false, cond, not, ◌&&◌, eqb, List, [], ◌∷◌, length, set, Some, None, Option, sym, refl, ap, ◌∙◌, subst, ⊎_elim, arith}
+use Rattle.std.proofs.lemmas.Bool.{cond_both, cases_eq}
+use Rattle.runs.specs.Replicas.{Scene, Seen, there, at}
 use Rattle.runs.specs.Progress.{Among, stay, talk, beat, wake}
-use Rattle.agreement.specs.declared.View.{View}
 use Rattle.agreement.specs.declared.ProposalId.{ProposalId}
-use Rattle.agreement.specs.declared.Joining.{Joining}
-use Rattle.agreement.specs.Content.{Service, Proposal, limit, rank, place_at, seven}
-use Rattle.agreement.specs.Machine.{repeats, Msg, Prepare, Promise, Propose, Alive, Accepted, Join, Forward, is_member, is_candidate, is_leader, Forwarded, Waiting, Mind, accepted, names, quorum, Turn, still, then_do, tell, tell_all, tell_done, forward_head, forward, may_answer, reply_to, hands, answer_head, answer, with_waiting, with_calls, with_joins, with_job, with_patience, with_heard, job_of, Job, DoCall, DoJoin, call_fits, join_fits, next_job, proposes, does, may_serve, serve, is_settled, settle, lead, elect, same_view, hold, welcome, enter, is_below, is_own, may_promise, on_prepare, on_promise, follows, is_named, implied, may_hold, is_late, hold_or_not, offered, take_or_not, leads, on_propose, holds, is_welcome, is_stale, alive_here, alive_there, on_alive, count_vote, on_accepted, on_join, on_forward, may_stand, ask_all, stand, say_again, has_job, stand_or_not, on_beat, hears, turn, woke, code}
+use Rattle.agreement.specs.Content.{Service, Proposal, rank, place_at, seven}
+use Rattle.agreement.specs.Machine.{Msg, Prepare, Promise, Propose, Alive, Accepted, Join, Forward, is_member, is_candidate, is_leader, Waiting, Mind, accepted, names, quorum, Turn, still, then_do, tell, tell_all, tell_done, forward, may_answer, reply_to, hands, answer_head, answer, with_calls, with_joins, with_job, with_patience, with_heard, job_of, Job, DoCall, DoJoin, call_fits, join_fits, next_job, proposes, does, may_serve, serve, is_settled, settle, elect, same_view, hold, welcome, is_below, is_own, may_promise, on_prepare, on_promise, follows, is_named, implied, may_hold, is_late, hold_or_not, offered, take_or_not, leads, on_propose, holds, is_welcome, is_stale, alive_here, alive_there, on_alive, on_accepted, on_join, on_forward, may_stand, ask_all, say_again, has_job, stand_or_not, on_beat, hears, turn, woke, code}
 use Rattle.agreement.proofs.Scenes.{at_same, at_other, un_there}
 use Rattle.agreement.proofs.Carried.{forward_head_mind}
 
@@ -128,7 +126,7 @@ module _ {sv : Service} where
 
   pub say_again_counts : Counts say_again
   unfolding say_again
-  say_again_counts m = cond_both (repeats m) _ _ (Has m) (λ _. tell_all_counts m) (λ _. cond_both (is_candidate m.agreement.role) _ _ (Has m) (λ _. ask_all_counts m) (λ _. (refl, refl, refl, omega arith)))
+  say_again_counts m = cond_both (is_leader m.agreement.role) _ _ (Has m) (λ _. tell_all_counts m) (λ _. cond_both (is_candidate m.agreement.role) _ _ (Has m) (λ _. ask_all_counts m) (λ _. (refl, refl, refl, omega arith)))
 
   pub stand_or_not_counts : Counts stand_or_not
   unfolding stand_or_not

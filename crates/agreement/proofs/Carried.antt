@@ -1,14 +1,12 @@
 -- Each proposal that is said in a turn is the one that is held after it: for every mind, whatever comes. A move either says no proposal (NoneIn), or keeps what is held (Same), or stands last (Ends).
-use Rattle.std.proofs.Common.{◌≡◌, ℕ, zero, suc, Bool, true, false, cond, not, ◌&&◌, ◌||◌, eqb, ltb, leb, ◌⊎◌, List, [], ◌∷◌, ◌++◌, length, get_or, set, is_some, Some, None, Option, sym, refl, ap, ◌∙◌, subst, inl, inr, ⊎_elim, arith}
+use Rattle.std.proofs.Common.{◌≡◌, ℕ, zero, suc, Bool, false, cond, not, ◌&&◌, ◌||◌, eqb, ltb, List, [], ◌∷◌, ◌++◌, length, get_or, set, is_some, Some, None, Option, refl, ap, ⊎_elim, arith}
 use mathlib.Core.List.Memᴰ
 use mathlib.Core.List.{Memᴰ}
 use Rattle.std.proofs.lemmas.Bool.{cond_both}
-use Rattle.runs.specs.Replicas.{Comes, Said, Call', Beat, Does, Says, Gives, Whole'}
-use Rattle.agreement.specs.declared.View.{View}
+use Rattle.runs.specs.Replicas.{Said, Call', Beat, Does, Says, Gives, Whole'}
 use Rattle.agreement.specs.declared.ProposalId.{ProposalId}
-use Rattle.agreement.specs.declared.Joining.{Joining}
-use Rattle.agreement.specs.Content.{Service, Proposal, limit, rank, id_of, place_at, seven}
-use Rattle.agreement.specs.Machine.{has_promise, repeats, Msg, Prepare, Promise, Propose, Alive, Accepted, Join, Forward, is_member, is_candidate, is_leader, Forwarded, Waiting, Mind, accepted, names, counts, quorum, Turn, still, says, then_do, to_each, word_to, tell, tell_all, tell_done, forward_head, forward, may_answer, reply_to, hands, answer_head, answer, Job, DoCall, DoJoin, call_fits, join_fits, next_job, proposes, does, may_serve, serve, is_settled, settle, elect, same_view, hold, welcome, enter, is_below, is_own, may_promise, is_mine, on_prepare, on_promise, follows, is_named, implied, may_hold, is_late, hold_or_not, offered, take_or_not, leads, on_propose, holds, is_welcome, is_stale, alive_here, alive_there, on_alive, count_vote, on_accepted, on_join, on_forward, is_full, comes_in, wait_or_not, quick_or_not, on_call, may_stand, ask_all, stand, standing, own_view, anew, without_jobs, say_again, has_job, stand_or_not, on_beat, hears, turn, job_of, with_job, with_joins, with_calls, with_patience, with_heard}
+use Rattle.agreement.specs.Content.{Service, Proposal, limit, rank, place_at, seven}
+use Rattle.agreement.specs.Machine.{Msg, Prepare, Promise, Propose, Alive, Accepted, Join, Forward, is_member, is_candidate, is_leader, Waiting, Mind, accepted, names, counts, quorum, Turn, still, then_do, to_each, word_to, tell, tell_all, tell_done, forward_head, forward, may_answer, reply_to, hands, answer_head, answer, Job, DoCall, DoJoin, call_fits, join_fits, next_job, proposes, does, may_serve, serve, is_settled, settle, elect, same_view, hold, welcome, is_below, is_own, may_promise, is_mine, on_prepare, on_promise, follows, is_named, implied, may_hold, is_late, hold_or_not, offered, take_or_not, leads, on_propose, holds, is_welcome, is_stale, alive_here, alive_there, on_alive, on_accepted, on_join, on_forward, is_full, wait_or_not, quick_or_not, may_stand, ask_all, stand, standing, own_view, anew, without_jobs, say_again, has_job, stand_or_not, on_beat, hears, turn, job_of, with_job, with_joins, with_calls, with_patience, with_heard}
 use Rattle.agreement.specs.Said.{Carries, CarriesAccepted}
 
 -- all that is said carries p
@@ -105,7 +103,7 @@ module _ {sv : Service} where
 
   ask_all_none : (m : Mind sv) → NoneIn (ask_all m)
   unfolding ask_all
-  ask_all_none m p = carry_each p _ (λ j. cond_both (has_promise m j) _ _ (AllCarry p) (λ _. tt) (λ _. (tt, tt))) m.agreement.all
+  ask_all_none m p = carry_each p _ (λ j. cond_both (eqb j m.agreement.me || counts m.agreement.votes m.agreement.places j) _ _ (AllCarry p) (λ _. tt) (λ _. (tt, tt))) m.agreement.all
 
   proposes_ends : (p : Proposal sv) (m : Mind sv) → Ends (proposes p m)
   proposes_ends p m = then_same _ answer (then_same _ tell_all tt tell_all_same) answer_same
@@ -183,7 +181,7 @@ module _ {sv : Service} where
 
   say_again_ends : (m : Mind sv) → Ends (say_again m)
   unfolding say_again
-  say_again_ends m = cond_both (repeats m) _ _ Ends (λ _. tell_all_ends m) (λ _. cond_both (is_candidate m.agreement.role) _ _ Ends (λ _. none_ends (ask_all m) (ask_all_none m)) (λ _. tt))
+  say_again_ends m = cond_both (is_leader m.agreement.role) _ _ Ends (λ _. tell_all_ends m) (λ _. cond_both (is_candidate m.agreement.role) _ _ Ends (λ _. none_ends (ask_all m) (ask_all_none m)) (λ _. tt))
 
   forward_same : Same forward
   forward_same m = (ap (λ (z : Mind sv). accepted z) (forward_head_mind m.waiting m), forward_head_none m.waiting m (accepted m))

@@ -1,23 +1,20 @@
 -- The ways in which a mind changes keep the invariant: each adds to the history what the replica did (a promise, a vote, a proposal with its own vote, or nothing), and shows that it was allowed.
-use Rattle.std.proofs.Common.{◌≡◌, ℕ, zero, suc, ◌+◌, ◌*◌, ◌/◌, ◌%◌, ◌<◌, ◌≤◌, max, Bool, true, false, cond, not, ◌&&◌, ◌||◌, eqb, ltb, leb, ◌⊎◌, List, [], ◌∷◌, ◌++◌, length, get_or, set, Some, None, Option, sym, refl, ap, ◌∙◌, subst, inl, inr, ⊎_elim, arith}
+use Rattle.std.proofs.Common.{◌≡◌, ℕ, suc, ◌<◌, ◌≤◌, Bool, true, false, ◌&&◌, eqb, ◌⊎◌, List, ◌∷◌, length, get_or, set, Some, None, Option, sym, refl, ap, ◌∙◌, subst, inl, inr, ⊎_elim, arith}
 use Rattle.std.proofs.lemmas.Bool.Decides.{nat_tests}
-use Rattle.std.proofs.lemmas.Bool.{cond_both, and_parts, or_cases, ltb-true, leb-true, eqb-true, not-true, true≢false, false≢true}
-use Rattle.runs.specs.Replicas.{Does, Says, Gives, Whole', how_many}
+use Rattle.std.proofs.lemmas.Bool.{cond_both, and_parts, or_cases, ltb-true, eqb-true, not-true, true≢false, false≢true}
 use Rattle.agreement.specs.declared.View.{View}
 use Rattle.agreement.specs.declared.Role.{Role}
 use Rattle.agreement.specs.declared.Role.TheVariants.{Recovering, Follower, Candidate, Leader}
-use Rattle.agreement.specs.declared.Place.{Place}
-use Rattle.agreement.specs.declared.Joining.{Joining}
 use Rattle.agreement.specs.declared.Agreement.{Agreement}
-use Rattle.agreement.specs.Facts.{World, Quorum, Chosen, at_first, by_votes, Welcome, is_root, is_next, is_first}
-use Rattle.agreement.specs.Content.{Service, Content, Proposal, limit, rank, id_of, view_of, leader_of, inc_of, seven, roster, copied, FitView, FitProposal}
-use Rattle.agreement.specs.Log.{Event, draws, makes, votes, pledges, At, age_in, top, pledge_of, vote_of, made_of, world, Ok, MakesOk, VotesOk, PledgesOk, Log, begins, goes_on, Step, Base}
-use Rattle.agreement.specs.Machine.{Msg, is_member, is_candidate, is_leader, Waiting, Mind, accepted, own_vote, is_vote, counts, quorum, promising, promised, standing, is_higher, higher, reported, alone, making, counted, learned, holding, keeping, entering, takes_up, anew, without_jobs, own_view, proposes, copy_in, Turn, still, tell_all, answer}
-use Rattle.agreement.proofs.Age.{age_stays, at_below}
+use Rattle.agreement.specs.Facts.{Chosen, by_votes}
+use Rattle.agreement.specs.Content.{Service, Proposal, limit, rank, id_of, view_of, leader_of, inc_of, seven, roster, FitView, FitProposal}
+use Rattle.agreement.specs.Log.{Event, makes, votes, pledges, At, age_in, top, made_of, world, Ok, MakesOk, VotesOk, Log}
+use Rattle.agreement.specs.Machine.{is_member, is_candidate, is_leader, Mind, accepted, own_vote, is_vote, counts, quorum, promising, standing, is_higher, higher, reported, making, learned, holding, keeping, entering, without_jobs, own_view, proposes, tell_all, answer}
+use Rattle.agreement.proofs.Age.{at_below}
 use Rattle.agreement.proofs.Ranks.{rank_leader, rank_incarnation, rank_above}
-use Rattle.agreement.proofs.History.{made_stays, drawn, once, pledge_made, made_small, made_fits, base_of}
+use Rattle.agreement.proofs.History.{made_stays, once, pledge_made, made_small, made_fits}
 use Rattle.agreement.proofs.Seven.{get_seven, get_set}
-use Rattle.agreement.proofs.Inv.{by_replica, Candid, Leading, Member, Outsider, Self, Holds, VoterInv, JobsInv, QueueInv, MindInv, answered_up, chosen_now, answered_now, welcome_now}
+use Rattle.agreement.proofs.Inv.{Candid, Member, Outsider, Self, VoterInv, QueueInv, MindInv, answered_up, chosen_now, answered_now, welcome_now}
 use Rattle.agreement.proofs.Moves.{Ext, same, more, Good, ext_queue, then_keeps, tell_all_keeps, answer_keeps}
 
 -- votes that were got

@@ -1,18 +1,17 @@
 -- Whatever happens: what a replica has waiting waits, whoever is whole is a member and the other way, and no call is answered twice. By induction over runs; then the sentences about clients.
-use Rattle.std.proofs.Common.{◌≡◌, ℕ, zero, suc, ◌+◌, ◌*◌, ◌<◌, ◌≤◌, Bool, true, false, cond, not, ◌&&◌, ◌||◌, T, eqb, ltb, leb, ◌⊎◌, List, [], ◌∷◌, ◌++◌, length, Some, None, Option, sym, refl, ap, ◌∙◌, subst, inl, inr, ⊎_elim, arith, T_not}
+use Rattle.std.proofs.Common.{◌≡◌, ℕ, ◌+◌, ◌<◌, ◌≤◌, Bool, true, false, cond, not, ◌&&◌, ◌||◌, T, eqb, ◌⊎◌, List, [], ◌∷◌, ◌++◌, length, Some, None, Option, sym, refl, ap, ◌∙◌, subst, inl, inr, ⊎_elim, arith, T_not}
 use mathlib.Core.List.Memᴰ
 use mathlib.Core.List.{Memᴰ}
 use Rattle.std.proofs.lemmas.Bool.Decides.{nat_tests}
-use Rattle.std.proofs.lemmas.Bool.{cond_both, and_parts, and_from, and_cases, not-true, not-false, leb-true, eqb-true, eqb-false, eq-eqb, ne_eqb, or_left, or_right, cases_eq, cases_Bool, true≢false, false≢true, cond-true, cond-false}
-use Rattle.runs.specs.Replicas.{Comes, Letter, Does, Says, Gives, Whole', House, there, gone, Scene, Seen, asked, gave, Waits, Said, Call', Beat, at, given, without, answered_off, left_by, count_of, was_asked, whole, is_in, New, Goes, first, hears, is_asked, beats, falls, wakes, turned, with_call, woken, fallen}
+use Rattle.std.proofs.lemmas.Bool.{cond_both, and_parts, and_from, and_cases, not-true, not-false, leb-true, eqb-true, eq-eqb, ne_eqb, or_left, or_right, cases_eq, cases_Bool, true≢false, false≢true}
+use Rattle.runs.specs.Replicas.{Does, Says, Gives, Whole', there, gone, Scene, Seen, asked, Waits, Said, Call', Beat, at, given, without, answered_off, left_by, count_of, was_asked, whole, is_in, Goes, first, hears, is_asked, beats, falls, wakes, turned, with_call, woken, fallen}
 use Rattle.agreement.specs.declared.Role.{Role}
-use Rattle.agreement.specs.declared.Role.TheVariants.{Recovering, Follower, Candidate, Leader}
+use Rattle.agreement.specs.declared.Role.TheVariants.{Recovering, Follower, Leader}
 use Rattle.agreement.specs.Content.{Service, Lawful}
-use Rattle.agreement.specs.Machine.{Msg, Waiting, is_member, Mind, Turn, turn, first_role, woke, code, is_full}
+use Rattle.agreement.specs.Machine.{Msg, Waiting, is_member, Mind, Turn, turn, first_role, woke, code}
 use Rattle.agreement.specs.Waiting.{AnswersWaiting, HandsBack, WholeIsMember, times_given, AnsweredOnce}
-use Rattle.agreement.proofs.Changes.{none_some, un_some}
 use Rattle.agreement.proofs.Scenes.{at_same, at_other, un_there, was_given}
-use Rattle.agreement.proofs.Waits.{Wait, Match, Taken, Fair, May, off_in, without_in, taken_in, kept_in, match_more, hears_fair, on_beat_fair, on_call_fair, on_call_gives}
+use Rattle.agreement.proofs.Waits.{Wait, Match, Taken, Fair, May, off_in, taken_in, kept_in, match_more, hears_fair, on_beat_fair, on_call_fair, on_call_gives}
 
 -- how often a call of this number waits
 unfoldable pub times_waiting : ℕ → List Waits → ℕ

@@ -1,18 +1,18 @@
 -- From what is chosen to a trace: the proposals that were passed, from the first of all up to one that is chosen, each made of the one before (Parent); every write on the way is a move of the trace.
 -- Which proposals are known to be chosen is noticed late; so a replica that answers first lets the trace climb to the proposal that it answers from.
-use Rattle.std.proofs.Common.{◌≡◌, ℕ, zero, suc, ◌+◌, ◌*◌, ◌/◌, ◌<◌, ◌≤◌, Bool, true, false, cond, not, ◌&&◌, ◌||◌, eqb, ◌⊎◌, List, [], ◌∷◌, ◌++◌, length, get_or, set, Some, None, Option, sym, refl, ap, ◌∙◌, subst, inl, inr, ⊎_elim, arith}
+use Rattle.std.proofs.Common.{◌≡◌, ℕ, zero, suc, ◌<◌, ◌≤◌, Bool, true, false, cond, eqb, ◌⊎◌, List, [], ◌∷◌, ◌++◌, length, get_or, set, Some, None, sym, refl, ap, ◌∙◌, subst, inl, inr, ⊎_elim, arith}
 use mathlib.Core.List.Memᴰ
 use mathlib.Core.List.{Memᴰ}
 use Rattle.std.proofs.lemmas.Bool.{cond_both, cases_lt, cases_eq, cases_Bool, true≢false, false≢true, or_cases, eqb-true}
 use Rattle.agreement.specs.declared.Place.{Place}
-use Rattle.agreement.specs.Facts.{World, Quorum, Chosen, Origin, is_root, is_next, is_first}
-use Rattle.agreement.specs.Content.{Service, Content, Proposal, id_of, view_of, root, first_content, fresh_place, place_in, place_at, roster, counted_at, called, joined, Change, copied, by_call, by_join}
-use Rattle.agreement.specs.Log.{Event, asks, At, age_in, ask_of, is_used, top, world, Ok, Log, begins, goes_on, Step, CallAsked}
+use Rattle.agreement.specs.Facts.{Quorum, Origin, is_root, is_next, is_first}
+use Rattle.agreement.specs.Content.{Service, Content, Proposal, id_of, view_of, root, fresh_place, place_in, place_at, roster, called, joined, Change, copied, by_call, by_join}
+use Rattle.agreement.specs.Log.{Event, asks, At, age_in, world, Ok, Log, goes_on, Step, CallAsked}
 use Rattle.agreement.specs.Agree.{IsChosen}
-use Rattle.agreement.proofs.Age.{age_one, ask_top, used_at, age_stays}
+use Rattle.agreement.proofs.Age.{age_one, ask_top, used_at}
 use Rattle.agreement.proofs.Ranks.{rank_first}
-use Rattle.agreement.proofs.Seven.{get_seven, get_set, get_set_here, get_set_other}
-use Rattle.agreement.proofs.History.{made_stays, chosen_stays, asked_stays, step_stays, quorum_stays, origin, once, facts, drawn, made_fits}
+use Rattle.agreement.proofs.Seven.{get_seven, get_set_here, get_set_other}
+use Rattle.agreement.proofs.History.{made_stays, asked_stays, step_stays, quorum_stays, origin, once, facts, made_fits}
 use Rattle.agreement.proofs.Heart.{first_above}
 use Rattle.agreement.proofs.Moves.{chosen_made}
 use Rattle.agreement.proofs.Trace.{Tick, Asked, Moved, Gave, AtOnce, state_of, seen_of, was_moved, Tail, whole, later, Trace, moves}

@@ -1,11 +1,11 @@
 -- After a turn a replica has the content that it had, with at most one job more, or the content of the letter that came: for every mind, whatever comes.
-use Rattle.std.proofs.Common.{◌≡◌, ℕ, zero, suc, Bool, true, false, cond, not, ◌&&◌, ◌||◌, eqb, ltb, leb, ◌⊎◌, List, [], ◌∷◌, ◌++◌, length, get_or, set, Some, None, Option, sym, refl, ap, ◌∙◌, subst, inl, inr}
+use Rattle.std.proofs.Common.{◌≡◌, ℕ, Bool, false, cond, not, ◌&&◌, eqb, ◌⊎◌, ◌++◌, length, set, Some, None, Option, sym, refl, ap, ◌∙◌, subst, inl, inr}
 use Rattle.std.proofs.lemmas.Bool.{cond_both}
-use Rattle.runs.specs.Replicas.{Comes, Said, Call', Beat}
+use Rattle.runs.specs.Replicas.{Said, Call', Beat}
 use Rattle.agreement.specs.declared.View.{View}
 use Rattle.agreement.specs.declared.ProposalId.{ProposalId}
-use Rattle.agreement.specs.Content.{Service, Content, Proposal, Change, copied, by_call, by_join, limit, rank, place_at, seven}
-use Rattle.agreement.specs.Machine.{repeats, Msg, Prepare, Promise, Propose, Alive, Accepted, Join, Forward, is_member, is_candidate, is_leader, Waiting, Mind, content_of, accepted, names, quorum, is_higher, learned, standing, own_view, anew, without_jobs, Turn, still, then_do, tell, tell_all, tell_done, forward, answer, Job, DoCall, DoJoin, call_fits, join_fits, next_job, proposes, does, may_serve, serve, is_settled, settle, elect, takes_up, same_view, hold, welcome, enter, is_below, is_own, may_promise, on_prepare, reported, on_promise, follows, is_named, implied, may_hold, is_late, hold_or_not, offered, take_or_not, leads, on_propose, holds, is_welcome, is_stale, alive_here, alive_there, on_alive, count_vote, on_accepted, on_join, on_forward, is_full, comes_in, wait_or_not, quick_or_not, may_stand, ask_all, stand, say_again, has_job, stand_or_not, on_beat, hears, turn, job_of, with_job, with_joins, with_calls, with_patience, with_heard}
+use Rattle.agreement.specs.Content.{Service, Content, Proposal, Change, copied, by_call, by_join, rank, place_at, seven}
+use Rattle.agreement.specs.Machine.{Msg, Prepare, Promise, Propose, Alive, Accepted, Join, Forward, is_member, is_candidate, is_leader, Waiting, Mind, content_of, accepted, names, quorum, is_higher, standing, own_view, anew, without_jobs, Turn, still, then_do, tell, tell_all, tell_done, forward, answer, Job, DoCall, DoJoin, call_fits, join_fits, next_job, proposes, does, may_serve, serve, is_settled, settle, elect, same_view, hold, welcome, is_below, is_own, may_promise, on_prepare, reported, on_promise, follows, is_named, implied, may_hold, is_late, hold_or_not, offered, take_or_not, leads, on_propose, holds, is_welcome, is_stale, alive_here, alive_there, on_alive, on_accepted, on_join, on_forward, is_full, wait_or_not, quick_or_not, may_stand, ask_all, stand, say_again, has_job, stand_or_not, on_beat, hears, turn, job_of, with_job, with_joins, with_calls, with_patience, with_heard}
 use Rattle.agreement.specs.Said.{Brings, OneContent}
 use Rattle.agreement.proofs.Carried.{forward_head_mind, answer_head_same, tell_all_same}
 
@@ -157,7 +157,7 @@ module _ {sv : Service} where
 
   say_again_leaves : Leaves say_again
   unfolding say_again
-  say_again_leaves m = cond_both (repeats m) _ _ (Has (content_of m)) (λ _. tell_all_leaves m) (λ _. cond_both (is_candidate m.agreement.role) _ _ (Has (content_of m)) (λ _. ask_all_leaves m) (λ _. refl))
+  say_again_leaves m = cond_both (is_leader m.agreement.role) _ _ (Has (content_of m)) (λ _. tell_all_leaves m) (λ _. cond_both (is_candidate m.agreement.role) _ _ (Has (content_of m)) (λ _. ask_all_leaves m) (λ _. refl))
 
   stand_or_not_more : (m : Mind sv) → More (content_of m) (stand_or_not m)
   unfolding stand_or_not

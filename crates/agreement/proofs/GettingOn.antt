@@ -1,19 +1,19 @@
 -- A group gets on by phases: as long as a call waits at one of it that is whole, that one comes to lead and answers its oldest; when none waits, one that is frail is woken, if it is down, and made whole. Each phase leaves less to do, so after a few of them nothing is left.
 -- What a phase does is taken for granted here (CallPhase, HealPhase); it is shown in Answering.antt and Healing.antt.
-use Rattle.std.proofs.Common.{◌≡◌, ℕ, zero, suc, ◌+◌, ◌*◌, ◌<◌, ◌≤◌, Bool, true, false, cond, not, ◌&&◌, ◌||◌, T, eqb, ltb, leb, ◌⊎◌, List, [], ◌∷◌, ◌++◌, length, sym, refl, ap, ◌∙◌, subst, inl, inr, ⊎_elim, arith}
+use Rattle.std.proofs.Common.{◌≡◌, ℕ, zero, suc, ◌+◌, ◌*◌, ◌<◌, ◌≤◌, Bool, true, false, cond, not, ◌&&◌, T, ltb, ◌⊎◌, List, [], ◌∷◌, ◌++◌, length, sym, refl, ap, ◌∙◌, subst, inl, inr, ⊎_elim, arith}
 use mathlib.Core.List.Memᴰ
 use mathlib.Core.List.{Memᴰ}
-use Rattle.std.proofs.lemmas.Bool.{cond_both, and_parts, and_from, not-true, ltb-true, ltb-false, cases_eq, cases_Bool, true≢false, false≢true}
-use Rattle.runs.specs.Replicas.{Comes, Said, Beat, Letter, House, there, gone, Scene, Seen, gave, Waits, at, given, posted, is_in, how_many, New, Goes, wakes, turned, woken}
-use Rattle.runs.specs.Progress.{Among, stay, talk, beat, wake, Enough, AnswersAndHeals}
-use Rattle.agreement.specs.Content.{Service, Lawful, Proposal}
-use Rattle.agreement.specs.Machine.{Msg, Prepare, Promise, Propose, Alive, Accepted, Join, Forward, Waiting, Mind, accepted, Turn, hears, on_beat, turn, woke, code}
+use Rattle.std.proofs.lemmas.Bool.{and_parts, and_from, not-true, ltb-true, ltb-false, cases_eq, false≢true}
+use Rattle.runs.specs.Replicas.{Said, Beat, House, there, gone, Scene, Seen, gave, Waits, at, is_in, Goes, woken}
+use Rattle.runs.specs.Progress.{Among, stay, talk, beat, wake, Enough}
+use Rattle.agreement.specs.Content.{Service}
+use Rattle.agreement.specs.Machine.{Msg, Waiting, Mind, hears, on_beat, turn, woke, code}
 use Rattle.agreement.specs.Steady.{Steady}
 use Rattle.agreement.proofs.Scenes.{at_same, at_other, un_there}
-use Rattle.agreement.proofs.Clients.{Clients, clients}
+use Rattle.agreement.proofs.Clients.{clients}
 use Rattle.agreement.proofs.CameIn.{fewer_wait, hears_counts, on_beat_counts}
 use Rattle.agreement.proofs.Slowly.{sized}
-use Rattle.agreement.proofs.Bounds.{Bounded, bounded, At}
+use Rattle.agreement.proofs.Bounds.{Bounded, bounded}
 use Rattle.agreement.proofs.Among.{among_goes_here, among_then, among_whole, among_waits}
 use Rattle.agreement.proofs.Finding.{sum_to, sum_le, sum_lt, sum_at_most, sum_none, find, not_in}
 use Rattle.agreement.proofs.Counting.{how_many_mono, how_many_none, found_in, is_found}
@@ -124,7 +124,7 @@ module _ {sv : Service} (st : Steady sv) where
     pub record From (n b : ℕ) (es : List (Seen sv.O sv.R)) (s : Scene (Mind sv) (Msg sv)) : Type 0 where
       pub goes : Goes (code sv) all n es s
       pub low : Low st all group b s
-      pub small : b < 144115188075855871
+      pub small : b < st.most + 255
       pub enough : Enough all group s
 
     -- its replica i, which has the mind m, is up, of the group and not frail
@@ -186,7 +186,7 @@ module _ {sv : Service} (st : Steady sv) where
     module _ (call : CallPhase) (heal : HealPhase) where
       abbrev Rest : ℕ → Type 0
       Rest k =
-          (n b : ℕ) (es : List (Seen sv.O sv.R)) (s : Scene (Mind sv) (Msg sv)) → From n b es s → b + 3 * k < 144115188075855871 → suc (length s.drawn + downs s) < 18446744073709551616 → sum_to all (left s) ≤ k → Gets s Mended
+          (n b : ℕ) (es : List (Seen sv.O sv.R)) (s : Scene (Mind sv) (Msg sv)) → From n b es s → b + 3 * k < st.most + 255 → suc (length s.drawn + downs s) < 18446744073709551616 → sum_to all (left s) ≤ k → Gets s Mended
 
       abbrev has_call : Scene (Mind sv) (Msg sv) → ℕ → Bool
       has_call s i = is_in i group && (not (s.frail i) && ltb 0 (waiting_at (s.house i)))
@@ -206,13 +206,13 @@ module _ {sv : Service} (st : Steady sv) where
       less_frail {s} {fs} {t} a i lt d e f = sum_lt all (left t) (left s) (λ j _. left_le a j) i lt (omega (arith, among_fewer a i, frail_less (is_in i group) (s.frail i) (t.frail i) (is_found i group d) e f))
 
       -- after a phase, the rest
-      onward : (k n b : ℕ) (es : List (Seen sv.O sv.R)) (s : Scene (Mind sv) (Msg sv)) → Rest k → From n b es s → b + 3 * suc k < 144115188075855871 → suc (length s.drawn + downs s) < 18446744073709551616 → sum_to all (left s) ≤ suc k →
+      onward : (k n b : ℕ) (es : List (Seen sv.O sv.R)) (s : Scene (Mind sv) (Msg sv)) → Rest k → From n b es s → b + 3 * suc k < st.most + 255 → suc (length s.drawn + downs s) < 18446744073709551616 → sum_to all (left s) ≤ suc k →
           (fs : List (Seen sv.O sv.R)) (t : Scene (Mind sv) (Msg sv)) → Among (code sv) all group s fs t → Low st all group (3 + b) t → sum_to all (left t) < sum_to all (left s) → Gets s Mended
       onward k n b es s rest f small few le fs t a low less =
           let (c, g) = among_goes_here f.goes a in
           gets_then a (rest c (3 + b) (fs ++ es) t (record { goes = g; low = low; small = omega (arith, small); enough = enough_stays a f.enough }) (omega (arith, small)) (omega (arith, few, among_drawn a)) (omega (arith, less, le)))
 
-      call_step : (k n b : ℕ) (es : List (Seen sv.O sv.R)) (s : Scene (Mind sv) (Msg sv)) → Rest k → From n b es s → b + 3 * suc k < 144115188075855871 → suc (length s.drawn + downs s) < 18446744073709551616 → sum_to all (left s) ≤ suc k →
+      call_step : (k n b : ℕ) (es : List (Seen sv.O sv.R)) (s : Scene (Mind sv) (Msg sv)) → Rest k → From n b es s → b + 3 * suc k < st.most + 255 → suc (length s.drawn + downs s) < 18446744073709551616 → sum_to all (left s) ≤ suc k →
           (i : ℕ) → i < all → has_call s i ≡ true → Gets s Mended
       call_step k n b es s rest f small few le i lt e =
           let (g, r) = and_parts (is_in i group) (not (s.frail i) && ltb 0 (waiting_at (s.house i))) e in let (w, z) = and_parts (not (s.frail i)) (ltb 0 (waiting_at (s.house i))) r in
@@ -230,7 +230,7 @@ module _ {sv : Service} (st : Steady sv) where
           let z : ltb 0 (waiting_at (s.house i)) ≡ false = subst (λ (y : Bool). (not y && ltb 0 (waiting_at (s.house i))) ≡ false) w h in
           omega (arith, ltb-false 0 (waiting_at (s.house i)) z)
 
-      heal_step : (k n b : ℕ) (es : List (Seen sv.O sv.R)) (s : Scene (Mind sv) (Msg sv)) → Rest k → From n b es s → b + 3 * suc k < 144115188075855871 → suc (length s.drawn + downs s) < 18446744073709551616 → sum_to all (left s) ≤ suc k → ((i : ℕ) → i < all → has_call s i ≡ false) →
+      heal_step : (k n b : ℕ) (es : List (Seen sv.O sv.R)) (s : Scene (Mind sv) (Msg sv)) → Rest k → From n b es s → b + 3 * suc k < st.most + 255 → suc (length s.drawn + downs s) < 18446744073709551616 → sum_to all (left s) ≤ suc k → ((i : ℕ) → i < all → has_call s i ≡ false) →
           (j : ℕ) → j < all → (is_in j group && s.frail j) ≡ true → Gets s Mended
       heal_step k n b es s rest f small few le none j lt e =
           let (g, fr) = and_parts (is_in j group) (s.frail j) e in let d = found_in j group g in
@@ -280,7 +280,7 @@ module _ {sv : Service} (st : Steady sv) where
           empty [] e x m = Memᴰ.not-nil m
           empty (y ∷ l) e x m = omega (arith, e)
 
-      pub answers_them : (n : ℕ) → all ≤ 7 → n < 72057594037927936 → (es : List (Seen sv.O sv.R)) (s : Scene (Mind sv) (Msg sv)) → Goes (code sv) all n es s → Enough all group s →
+      pub answers_them : (n : ℕ) → all ≤ 7 → n < st.most → (es : List (Seen sv.O sv.R)) (s : Scene (Mind sv) (Msg sv)) → Goes (code sv) all n es s → Enough all group s →
           (fs : List (Seen sv.O sv.R)) × (t : Scene (Mind sv) (Msg sv)) × Among (code sv) all group s fs t × ((a : Waits) → Memᴰ a s.waits → Memᴰ a.house group → (r : sv.R) × Memᴰ (gave a.house a.number r) fs) × ((i : ℕ) → i < all → Memᴰ i group → t.frail i ≡ false)
       answers_them n few short es s g e =
           let b = bounded (sized st) all g in

@@ -1,30 +1,28 @@
 -- HEALING: a replica of the group that leads, and at which nothing waits, makes one of the group that recovers whole. If what it holds names that one already, it is enough to have it chosen and to say so;
 -- else that one asks to be written in, the copy is chosen, then the proposal that writes it in, and then it is told so.
-use Rattle.std.proofs.Common.{◌≡◌, ℕ, zero, suc, ◌+◌, ◌-◌, ◌*◌, ◌<◌, ◌≤◌, Bool, true, false, cond, not, ◌&&◌, ◌||◌, eqb, ltb, leb, ◌⊎◌, List, [], ◌∷◌, ◌++◌, length, get_or, set, is_some, Some, None, Option, sym, refl, ap, ◌∙◌, subst, inl, inr, ⊎_elim, arith}
+use Rattle.std.proofs.Common.{◌≡◌, ℕ, suc, ◌+◌, ◌-◌, ◌*◌, ◌<◌, ◌≤◌, true, false, cond, not, ◌&&◌, eqb, ◌⊎◌, List, [], ◌∷◌, get_or, set, is_some, Some, None, Option, sym, refl, ap, ◌∙◌, subst, inl, inr, ⊎_elim, arith}
 use mathlib.Core.List.Memᴰ
 use mathlib.Core.List.{Memᴰ}
-use Rattle.std.proofs.lemmas.Bool.{cond_both, cond-true, cond-false, cases_eq, cases_Bool, true≢false, and_left, and_right, and_from, eq-eqb, ne_eqb, eqb-true, eqb-false, le-leb, le-ltb, lt-ltb, not_from_false, not_from_true}
-use Rattle.runs.specs.Replicas.{Letter, Scene, Seen, Does, Says, Said, Beat, there, turned, whole, Goes}
+use Rattle.std.proofs.lemmas.Bool.{cond_both, cond-true, cond-false, cases_eq, cases_Bool, true≢false, and_left, and_right, and_from, eq-eqb, ne_eqb, eqb-false, le-leb, le-ltb, lt-ltb, not_from_false, not_from_true}
+use Rattle.runs.specs.Replicas.{Scene, Seen, Says, Beat, there, turned, whole, Goes}
 use Rattle.runs.specs.Progress.{Among, Enough}
 use Rattle.agreement.specs.declared.View.{View}
 use Rattle.agreement.specs.declared.Joining.{Joining}
 use Rattle.agreement.specs.declared.Role.{Role}
-use Rattle.agreement.specs.declared.Role.TheVariants.{Recovering, Leader}
-use Rattle.agreement.specs.Content.{Service, Content, Proposal, limit, rank, id_of, seven, fresh_place, roster, joined, FitView, FitProposal}
-use Rattle.agreement.specs.Log.{Event}
-use Rattle.agreement.specs.Machine.{Msg, Propose, Alive, Join, Mind, accepted, content_of, is_member, is_leader, names, Turn, still, says, then_do, word_to, alive_to, tell_all, tell_done, forward, answer, learned, making, own_vote, keeping, takes_up, welcome, follows, same_view, is_named, may_hold, holds, is_welcome, join_fits, with_joins, job_of, next_of, next_job, proposes, may_serve, serve, ticks, heard_most, patience_of, may_stand, stand, has_job, say_again, ask_all, stand_or_not, on_beat, is_candidate, turn, code}
+use Rattle.agreement.specs.declared.Role.TheVariants.{Leader}
+use Rattle.agreement.specs.Content.{Service, Proposal, limit, rank, id_of, fresh_place, roster, joined, FitView, FitProposal}
+use Rattle.agreement.specs.Machine.{Msg, Propose, Alive, Join, Mind, accepted, content_of, is_member, is_leader, names, Turn, still, says, then_do, word_to, alive_to, tell_all, tell_done, forward, answer, learned, making, keeping, welcome, follows, same_view, is_named, may_hold, join_fits, with_joins, job_of, next_of, next_job, proposes, serve, ticks, heard_most, patience_of, may_stand, stand, has_job, say_again, ask_all, stand_or_not, on_beat, is_candidate, turn, code}
 use Rattle.agreement.specs.Steady.{Steady}
 use Rattle.agreement.proofs.Seven.{get_set_here}
 use Rattle.agreement.proofs.Scenes.{at_same, un_there}
 use Rattle.agreement.proofs.History.{made_fits}
-use Rattle.agreement.proofs.Inv.{MindInv}
 use Rattle.agreement.proofs.Clients.{clients}
 use Rattle.agreement.proofs.Carried.{forward_head_mind}
 use Rattle.agreement.proofs.Stages.{Low, Follows, view_above, Elected}
-use Rattle.agreement.proofs.Steps.{letter, Reaches, Since, rel_at, beat_to, talk_to, since_stays, since_said, house_here, house_there, frail_there, whole_stays, to_each_says}
+use Rattle.agreement.proofs.Steps.{letter, Reaches, rel_at, beat_to, talk_to, since_stays, since_said, house_here, house_there, whole_stays, to_each_says}
 use Rattle.agreement.proofs.Counting.{own_vote_else}
-use Rattle.agreement.proofs.Rounds.{Followed, Leads, Beside, Settled, follows_still, polled, settling, round}
-use Rattle.agreement.proofs.Settling.{answer_none, settling_mind, settling_serves, settling_tells, proposes_mind, proposes_says, Onward, settling_onward}
+use Rattle.agreement.proofs.Rounds.{Followed, Leads, Settled, follows_still, polled, settling, round}
+use Rattle.agreement.proofs.Settling.{answer_none, settling_mind, settling_serves, settling_tells, proposes_mind, proposes_says, settling_onward}
 use Rattle.agreement.proofs.NextJob.{nothing_next, has_none, serve_none, serve_join}
 use Rattle.agreement.proofs.Recovers.{asks_in, joins_is, keeps_is, welcome_is, alive_is, welcome_whole, welcome_mind, join_kept}
 use Rattle.agreement.proofs.Phases.{leads_elected, leads_next, leads_beside, Bounded, low_end, bounded_same, bounded_follows}

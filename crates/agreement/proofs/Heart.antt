@@ -1,8 +1,7 @@
 -- From the facts of votes and pledges: what was chosen is in the line of every later proposal.
-use Rattle.std.proofs.Common.{◌≡◌, ℕ, zero, suc, ◌*◌, ◌<◌, ◌≤◌, Bool, true, false, ◌⊎◌, sym, refl, ap, ◌∙◌, subst, inl, inr, arith}
+use Rattle.std.proofs.Common.{◌≡◌, ℕ, zero, suc, ◌<◌, ◌≤◌, ◌⊎◌, ap, subst, inl, inr, arith}
 use mathlib.Core.Logic.{⊎_swap}
 use Rattle.std.proofs.lemmas.Bool.{cases_lt, cases_order}
-use Rattle.runs.specs.Replicas.{how_many}
 use Rattle.agreement.specs.Facts.{World, Quorum, VoteBy, Chosen, at_first, by_votes, Welcome, Line, here, onward, Origin, is_root, is_next, is_first, Facts, ChosenInLine}
 use Rattle.agreement.proofs.Quorum.{quorums}
 

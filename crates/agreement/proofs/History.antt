@@ -1,11 +1,10 @@
 -- A history in which each thing had what it needs has the facts of `Facts`.
-use Rattle.std.proofs.Common.{◌≡◌, ℕ, zero, suc, ◌+◌, ◌*◌, ◌/◌, ◌<◌, ◌≤◌, ◌⊎◌, List, [], ◌∷◌, length, sym, refl, ap, ◌∙◌, subst, inl, inr, arith}
-use mathlib.Core.Logic.{⊎_map}
-use Rattle.std.proofs.lemmas.Bool.{cases_lt, cases_order}
-use Rattle.agreement.specs.Facts.{World, Quorum, VoteBy, Chosen, at_first, by_votes, Welcome, Line, here, onward, Origin, is_root, is_next, is_first, Facts, ChosenInLine}
+use Rattle.std.proofs.Common.{◌≡◌, ℕ, zero, suc, ◌/◌, ◌<◌, ◌≤◌, ◌⊎◌, List, [], ◌∷◌, length, sym, refl, ap, ◌∙◌, subst, inl, inr, arith}
+use Rattle.std.proofs.lemmas.Bool.{cases_lt}
+use Rattle.agreement.specs.Facts.{Quorum, Chosen, at_first, by_votes, Welcome, Origin, is_root, is_next, is_first, Facts}
 use Rattle.agreement.specs.declared.Place.{Place}
-use Rattle.agreement.specs.Content.{Service, Content, Proposal, Change, copied, by_call, by_join, id_of, view_of, leader_of, inc_of, root, roster, fresh_place, seven, limit, first_view, FitView, FitPlace, FitProposal}
-use Rattle.agreement.specs.Log.{draws, asks, age_in, CallAsked, Base, MakesOk, PledgesOk, Event, makes, votes, pledges, At, world, Ok, Log, begins, goes_on, Step, AllAgree}
+use Rattle.agreement.specs.Content.{Service, Content, Proposal, Change, copied, by_call, by_join, id_of, view_of, leader_of, inc_of, root, roster, fresh_place, limit, FitProposal}
+use Rattle.agreement.specs.Log.{age_in, CallAsked, Base, MakesOk, PledgesOk, Event, votes, pledges, At, world, Ok, Log, goes_on, Step, AllAgree}
 use Rattle.agreement.proofs.Heart.{agreement}
 use Rattle.agreement.proofs.Seven.{get_seven}
 use Rattle.agreement.proofs.Ranks.{rank_first}

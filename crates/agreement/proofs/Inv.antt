@@ -1,18 +1,17 @@
 -- THE INVARIANT: what holds of every replica and of every letter, over the history of what was done. No replica keeps the history; that there is one is what is proved.
 -- It stands in parts, each with the event that could break it.
-use Rattle.std.proofs.Common.{◌≡◌, ℕ, zero, suc, ◌+◌, ◌*◌, ◌/◌, ◌%◌, ◌<◌, ◌≤◌, max, Bool, true, false, cond, ◌&&◌, eqb, ◌⊎◌, List, [], ◌∷◌, length, get_or, set, Some, None, Option, sym, refl, ap, ◌∙◌, subst, inl, inr, arith}
-use mathlib.Core.List.{Memᴰ}
+use Rattle.std.proofs.Common.{◌≡◌, ℕ, suc, ◌+◌, ◌*◌, ◌<◌, ◌≤◌, Bool, true, false, ◌⊎◌, List, [], ◌∷◌, length, get_or, Some, None, Option, refl, inr, arith}
 use Rattle.std.proofs.lemmas.Bool.Decides.{nat_tests}
 use Rattle.runs.specs.Replicas.{Letter, Does, Says, Gives, Whole'}
 use Rattle.agreement.specs.declared.View.{View}
 use Rattle.agreement.specs.declared.Role.{Role}
 use Rattle.agreement.specs.declared.Joining.{Joining}
-use Rattle.agreement.specs.Facts.{World, Quorum, Chosen, at_first, by_votes, Welcome}
-use Rattle.agreement.specs.Content.{Service, Proposal, limit, rank, id_of, view_of, leader_of, inc_of, root, place_at, roster, FitView}
-use Rattle.agreement.specs.Log.{Event, draws, asks, ask_of, makes, votes, pledges, At, age_in, top, pledge_of, vote_of, made_of, world, Ok, Log, begins, goes_on}
+use Rattle.agreement.specs.Facts.{World, Chosen, at_first, by_votes, Welcome}
+use Rattle.agreement.specs.Content.{Service, Proposal, limit, rank, id_of, view_of, leader_of, inc_of, place_at, roster, FitView}
+use Rattle.agreement.specs.Log.{Event, draws, asks, ask_of, makes, votes, pledges, At, age_in, top, pledge_of, vote_of, made_of, world, Ok}
 use Rattle.agreement.specs.Machine.{Msg, Prepare, Promise, Propose, Alive, Accepted, Join, Forward, is_member, is_candidate, is_leader, Forwarded, Waiting, Mind, accepted}
 use Rattle.agreement.proofs.Age.{age_stays}
-use Rattle.agreement.proofs.History.{made_stays, chosen_stays, welcome_stays}
+use Rattle.agreement.proofs.History.{made_stays, chosen_stays}
 
 -- whose doing a thing is
 abbrev pub by_replica : {sv : Service} → Event sv → ℕ

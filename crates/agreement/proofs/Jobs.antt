@@ -1,17 +1,17 @@
 -- A leader's next proposal: the places after a job are as young as before, a job that is taken up was asked for, and so serving keeps the invariant.
-use Rattle.std.proofs.Common.{◌≡◌, ℕ, zero, suc, ◌+◌, ◌*◌, ◌<◌, ◌≤◌, Bool, true, false, cond, not, ◌&&◌, ◌||◌, eqb, ltb, leb, ◌⊎◌, List, [], ◌∷◌, length, get_or, set, Some, None, Option, sym, refl, ap, ◌∙◌, subst, inl, inr, ⊎_elim, arith}
+use Rattle.std.proofs.Common.{◌≡◌, ℕ, zero, suc, ◌<◌, ◌≤◌, true, cond, ◌&&◌, eqb, ltb, ◌⊎◌, List, [], ◌∷◌, length, get_or, set, Some, None, Option, sym, refl, ap, ◌∙◌, subst, inl, inr, arith}
 use Rattle.std.specs.Option.{option_or}
 use Rattle.std.proofs.lemmas.Bool.Decides.{nat_tests}
 use Rattle.std.proofs.lemmas.Bool.{cond_both, and_parts, ltb-true, eqb-true, eqb-false, not-true}
 use Rattle.agreement.specs.declared.Place.{Place}
 use Rattle.agreement.specs.declared.Joining.{Joining}
 use Rattle.agreement.specs.Facts.{is_next}
-use Rattle.agreement.specs.Content.{Service, Content, Proposal, limit, rank, id_of, view_of, fresh_place, place_in, place_at, roster, counted_at, called, joined, Change, copied, by_call, by_join, FitView, FitPlace, FitProposal}
-use Rattle.agreement.specs.Log.{Event, age_in, world, CallAsked, MakesOk, Log}
-use Rattle.agreement.specs.Machine.{is_self, is_leader, Forwarded, Waiting, Mind, accepted, content_of, names, Turn, still, Job, DoCall, DoJoin, call_fits, join_fits, call_job, join_job, after, first_from, own_head, join_at, call_at, first_of, next_job, proposes, next_of, job_of, with_job, with_calls, with_joins, does, may_serve, serve}
+use Rattle.agreement.specs.Content.{Service, Content, Proposal, limit, rank, view_of, fresh_place, place_in, place_at, roster, called, joined, Change, by_call, by_join, FitPlace}
+use Rattle.agreement.specs.Log.{Event, age_in, CallAsked, MakesOk, Log}
+use Rattle.agreement.specs.Machine.{is_leader, Forwarded, Waiting, Mind, accepted, content_of, names, Job, DoCall, DoJoin, call_fits, join_fits, call_job, join_job, after, first_from, own_head, join_at, call_at, first_of, next_job, proposes, next_of, job_of, with_calls, with_joins, does, may_serve, serve}
 use Rattle.agreement.proofs.History.{drawn}
 use Rattle.agreement.proofs.Seven.{get_set, length_set}
-use Rattle.agreement.proofs.Inv.{Member, Leading, JoinOk, AskedAs, Lined, JobsInv, QueueInv, MindInv}
+use Rattle.agreement.proofs.Inv.{Member, Leading, JoinOk, AskedAs, Lined, JobsInv, MindInv}
 use Rattle.agreement.proofs.Moves.{Good, Keeps, still_good}
 use Rattle.agreement.proofs.Changes.{leader_member, cleared_is, none_some, un_some, fits_all, making_good}
 
@@ -78,12 +78,12 @@ module _ {sv : Service} (all : ℕ) (h : List (Event sv)) (lg : Log all h) (i : 
   job_ok =
       or_ok (JobOk all h (accepted m)) (first_of (join_at m) m) (first_of (call_at m) m)
       (first_ok (JobOk all h (accepted m)) (join_at m) m.agreement.all (λ j lt. join_job_ok all h (accepted m) j (get_or m.agreement.joins j None) (omega (arith, v.0.who.all')) (v.1.joins j)) m.agreement.all m.agreement.turn (omega (arith, v.0.who.all', v.1.turn)))
-      (first_ok (JobOk all h (accepted m)) (call_at m) m.agreement.all (λ j lt. call_job_ok all h (accepted m) j (cond (is_self m j) (own_head m.waiting m) (get_or m.calls j None)) (omega (arith, v.0.who.all')) (asked j)) m.agreement.all m.agreement.turn (omega (arith, v.0.who.all', v.1.turn)))
+      (first_ok (JobOk all h (accepted m)) (call_at m) m.agreement.all (λ j lt. call_job_ok all h (accepted m) j (cond (eqb j m.agreement.me) (own_head m.waiting m) (get_or m.calls j None)) (omega (arith, v.0.who.all')) (asked j)) m.agreement.all m.agreement.turn (omega (arith, v.0.who.all', v.1.turn)))
     where
       -- a call that a leader has came in where it says: the own head, or one that was forwarded
-      asked : (j : ℕ) (a : Forwarded sv) → cond (is_self m j) (own_head m.waiting m) (get_or m.calls j None) ≡ Some a → AskedAs h j a.incarnation a.no a.number a.call
+      asked : (j : ℕ) (a : Forwarded sv) → cond (eqb j m.agreement.me) (own_head m.waiting m) (get_or m.calls j None) ≡ Some a → AskedAs h j a.incarnation a.no a.number a.call
       asked j a =
-          cond_both (is_self m j) _ _ (λ (o : Option (Forwarded sv)). o ≡ Some a → AskedAs h j a.incarnation a.no a.number a.call)
+          cond_both (eqb j m.agreement.me) _ _ (λ (o : Option (Forwarded sv)). o ≡ Some a → AskedAs h j a.incarnation a.no a.number a.call)
           (λ e q. subst (λ (z : ℕ). AskedAs h z a.incarnation a.no a.number a.call) (sym (eqb-true _ _ e ∙ v.0.who.me)) (own_asked h i m m.waiting v.1.waits a q)) (λ _ q. v.1.calls j a q)
 
   -- whose job it is, and who is next

@@ -1,8 +1,8 @@
 -- The last call of a replica that a proposal counts: it came in there as that, and if it is a write, something is kept of it. By going down from the proposal to the one that it was made of.
-use Rattle.std.proofs.Common.{◌≡◌, ℕ, zero, suc, ◌<◌, ◌≤◌, Bool, true, false, cond, ◌⊎◌, List, [], ◌∷◌, length, get_or, set, Some, None, Option, sym, refl, ap, ◌∙◌, subst, inl, inr, ⊎_elim, arith}
-use Rattle.std.proofs.lemmas.Bool.{cond_both, cases_eq, true≢false}
+use Rattle.std.proofs.Common.{◌≡◌, ℕ, zero, suc, ◌<◌, false, ◌⊎◌, List, length, get_or, set, Some, None, refl, ap, ◌∙◌, subst, inl, inr, arith}
+use Rattle.std.proofs.lemmas.Bool.{cond_both, cases_eq}
 use Rattle.agreement.specs.declared.Place.{Place}
-use Rattle.agreement.specs.Content.{Service, Content, Proposal, id_of, root, fresh_place, place_in, place_at, roster, counted_at, called, joined, Change, copied, by_call, by_join}
+use Rattle.agreement.specs.Content.{Service, Content, Proposal, id_of, root, fresh_place, place_in, place_at, roster, called, joined, Change, copied, by_call, by_join}
 use Rattle.agreement.specs.Log.{Event, asks, At, world, Log, CallAsked}
 use Rattle.agreement.proofs.Seven.{get_seven, get_set_here, get_set_other}
 use Rattle.agreement.proofs.History.{made_fits}

@@ -1,28 +1,27 @@
 -- LINEARIZABLE: whatever happens, there is a trace of what clients saw, whose writes are those of the chosen line; so clients can't tell the replicas from one clerk.
-use Rattle.std.proofs.Common.{◌≡◌, ℕ, zero, suc, ◌+◌, ◌*◌, ◌<◌, ◌≤◌, Bool, true, false, cond, not, ◌&&◌, ◌||◌, T, eqb, ◌⊎◌, List, [], ◌∷◌, ◌++◌, length, get_or, Some, None, Option, sym, refl, ap, ◌∙◌, subst, inl, inr, ⊎_elim, arith, T_not}
+use Rattle.std.proofs.Common.{◌≡◌, ℕ, ◌+◌, ◌<◌, ◌≤◌, Bool, true, false, cond, not, T, eqb, ◌⊎◌, List, [], ◌∷◌, ◌++◌, length, get_or, Some, None, Option, sym, refl, ap, ◌∙◌, inl, inr, ⊎_elim, arith, T_not}
 use mathlib.Core.List.Memᴰ
 use mathlib.Core.List.{Memᴰ}
-use Rattle.std.proofs.lemmas.Bool.Decides.{nat_tests}
-use Rattle.std.proofs.lemmas.Bool.{cond_both, cases_lt, cases_Bool, true≢false, false≢true, or_cases, or_left, or_right, eqb-true, eq-eqb}
-use Rattle.runs.specs.Replicas.{Letter, Does, Says, Gives, Whole', House, there, gone, Scene, Seen, asked, gave, Waits, Said, Call', Beat, given, without, answered_off, was_asked, Goes, first, hears, is_asked, beats, falls, wakes, turned, with_call}
+use Rattle.std.proofs.lemmas.Bool.{cond_both, cases_lt, cases_Bool, false≢true, or_cases, or_left, or_right, eq-eqb}
+use Rattle.runs.specs.Replicas.{Does, Says, Gives, Whole', there, Scene, Seen, asked, gave, Waits, Said, Beat, given, without, was_asked, Goes, first, hears, is_asked, beats, falls, wakes, turned, with_call}
 use Rattle.runs.specs.Room.{Open, Ready, Room, LikeARoom}
 use Rattle.agreement.specs.Content.{Service, Lawful, Proposal, limit, id_of, root, place_at, roster}
 use Rattle.agreement.specs.Facts.{at_first}
-use Rattle.agreement.specs.Log.{Event, draws, asks, makes, votes, pledges, At, world, Ok, Log, begins, goes_on}
+use Rattle.agreement.specs.Log.{Event, draws, asks, makes, votes, pledges, At, Ok, Log, goes_on}
 use Rattle.agreement.specs.Agree.{IsChosen}
 use Rattle.agreement.specs.Waiting.{times_given}
-use Rattle.agreement.specs.Machine.{Msg, Waiting, Mind, Turn, turn, still, then_do, forward, serve, is_full, comes_in, wait_or_not, quick_or_not, on_call, code}
+use Rattle.agreement.specs.Machine.{Msg, Waiting, Mind, Turn, turn, is_full, wait_or_not, quick_or_not, code}
 use Rattle.agreement.proofs.Inv.{Answered, Replied, Well, chosen_now}
 use Rattle.agreement.proofs.Moves.{Ext, same, more, Plain, Good, ext_log, chosen_made}
-use Rattle.agreement.proofs.Changes.{none_some, un_some}
+use Rattle.agreement.proofs.Changes.{un_some}
 use Rattle.agreement.proofs.Waits.{Wait, Taken, hears_fair, on_beat_fair, on_call_fair}
-use Rattle.agreement.proofs.Clients.{Clients, clients, times_waiting, less_waits, off_waits, given_once, called_clients, fresh}
+use Rattle.agreement.proofs.Clients.{clients, times_waiting, less_waits, off_waits, given_once, called_clients, fresh}
 use Rattle.agreement.proofs.Turns.{on_beat_good, asked_now, ask_ok, starts_good, waits_good}
 use Rattle.agreement.proofs.Runs.{Rel, beside, turned_rel, first_rel, fall_rel, wake_rel, heard_good, at_once_rel, mind_here, unused, waits_beside}
-use Rattle.agreement.proofs.Trace.{Tick, Asked, Moved, Gave, AtOnce, state_of, seen_of, was_moved, was_given, Tail, whole, later, Way, wrote, read_at, Quickly, Trace, none, moves, gives}
+use Rattle.agreement.proofs.Trace.{Tick, Asked, Moved, Gave, AtOnce, state_of, seen_of, was_given, Tail, whole, later, Way, wrote, read_at, Quickly, Trace, none, gives}
 use Rattle.agreement.proofs.Trace.{asks as asks', once as once'}
 use Rattle.agreement.proofs.RoomOf.{room_of}
-use Rattle.agreement.proofs.Climbs.{ask_once, ask_positive, chain_to, Climbs, at_root, passes, climbs, climbs_stay, climb_state, chosen_passed, tail_trans, tail_in, Passed, passed_at, Done, done_at, Climbed, climb_to}
+use Rattle.agreement.proofs.Climbs.{ask_once, ask_positive, chain_to, Climbs, at_root, passes, climbs_stay, climb_state, chosen_passed, tail_trans, tail_in, Passed, passed_at, Done, done_at, Climbed, climb_to}
 
 -- tr is a trace of what clients saw (es), and climbed to a chosen proposal; every call that came in to wait is in it
 pub record Traced {sv : Service} (all : ℕ) (h : List (Event sv)) (es : List (Seen sv.O sv.R)) (tr : List (Tick sv.O sv.R)) : Type 0 where

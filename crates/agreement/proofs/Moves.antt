@@ -1,15 +1,13 @@
 -- A move keeps the invariant (Good, Keeps): what that is, that one move after another does, and that those do which only say something, forward a call or answer one.
-use Rattle.std.proofs.Common.{◌≡◌, ℕ, zero, suc, ◌+◌, ◌*◌, ◌<◌, ◌≤◌, Bool, true, false, cond, not, ◌&&◌, ◌||◌, eqb, ltb, leb, ◌⊎◌, List, [], ◌∷◌, ◌++◌, length, get_or, set, is_some, Some, None, Option, sym, refl, ap, ◌∙◌, subst, inl, inr, ⊎_elim, arith}
-use mathlib.Core.List.{Memᴰ}
+use Rattle.std.proofs.Common.{◌≡◌, ℕ, zero, suc, ◌<◌, true, false, ◌&&◌, ◌||◌, eqb, ltb, List, [], ◌∷◌, ◌++◌, length, get_or, is_some, Some, None, Option, sym, refl, ap, ◌∙◌, inl, inr, arith}
 use Rattle.std.proofs.lemmas.Bool.{cond_both, and_parts, or_parts, ltb-true, eqb-true, eqb-false}
 use Rattle.runs.specs.Replicas.{Does, Says, Gives, Whole'}
-use Rattle.agreement.specs.declared.View.{View}
 use Rattle.agreement.specs.Facts.{Chosen, at_first, by_votes}
-use Rattle.agreement.specs.Content.{Service, Proposal, limit, rank, id_of, roster, place_at, FitView, FitProposal}
+use Rattle.agreement.specs.Content.{Service, Proposal, limit, roster, place_at}
 use Rattle.agreement.specs.Log.{Event, draws, asks, makes, votes, pledges, age_in, ask_of, is_used, world, Ok, Log, goes_on}
-use Rattle.agreement.specs.Machine.{has_promise, Msg, Prepare, Promise, Propose, Alive, Accepted, Join, Forward, is_member, Waiting, Mind, accepted, Turn, still, says, then_do, to_each, catch_up, word_to, alive_to, tell, tell_all, tell_done, own_call, sends, forward_head, forward, names, with_waiting, may_answer, say_kept, reply_to, hands, answer_head, answer, counts, ask_to, ask_all}
+use Rattle.agreement.specs.Machine.{Msg, is_member, Waiting, Mind, accepted, Turn, still, says, then_do, to_each, catch_up, word_to, alive_to, tell, tell_all, tell_done, sends, forward_head, forward, names, with_waiting, may_answer, say_kept, reply_to, hands, answer_head, answer, counts, ask_all}
 use Rattle.agreement.proofs.History.{drawn, made_fits}
-use Rattle.agreement.proofs.Inv.{by_replica, Self, answered_by, Holds, VoterInv, AskedAs, Lined, JobsInv, QueueInv, MindInv, WordInv, Other, Replied, Answered, Well, join_stays, jobs_stay, word_stays, well_stays}
+use Rattle.agreement.proofs.Inv.{by_replica, Self, answered_by, VoterInv, AskedAs, Lined, QueueInv, MindInv, WordInv, Other, Replied, Answered, Well, jobs_stay, word_stays, well_stays}
 
 -- neither a waking nor a call that comes in
 abbrev pub Plain : {sv : Service} → Event sv → Type 0
@@ -157,7 +155,7 @@ module _ {sv : Service} (all i : ℕ) where
         then = h;
         ext = same;
         mind = v;
-        words = each_well h _ m.agreement.all (λ j lt. cond_both (has_promise m j) _ _ (Well all h i) (λ _. tt)
+        words = each_well h _ m.agreement.all (λ j lt. cond_both (eqb j m.agreement.me || counts m.agreement.votes m.agreement.places j) _ _ (Well all h i) (λ _. tt)
             (λ e. (others h j _ _ _ v.0.who (omega (arith, v.0.who.all')) (or_parts _ _ e).0, v.0.fits, tt)));
       }
 

@@ -1,11 +1,11 @@
 -- The next job of a leader: none where nothing is asked for; the one join, or else the own oldest call, where that is all that is asked for.
-use Rattle.std.proofs.Common.{◌≡◌, ℕ, zero, suc, ◌+◌, ◌-◌, ◌*◌, ◌<◌, ◌≤◌, Bool, true, false, cond, not, ◌&&◌, ◌||◌, eqb, ltb, leb, ◌⊎◌, List, [], ◌∷◌, ◌++◌, length, get_or, set, is_some, Some, None, Option, sym, refl, ap, ◌∙◌, subst, inl, inr, ⊎_elim, arith}
+use Rattle.std.proofs.Common.{◌≡◌, ℕ, ◌<◌, true, false, cond, eqb, List, [], ◌∷◌, get_or, set, is_some, Some, None, Option, sym, refl, ap, ◌∙◌, arith}
 use Rattle.std.specs.Option.{option_or}
 use Rattle.std.proofs.lemmas.Bool.Decides.{nat_tests}
-use Rattle.std.proofs.lemmas.Bool.{cond_both, cond-true, cond-false, cases_eq, eq-eqb, ne_eqb, and_right}
+use Rattle.std.proofs.lemmas.Bool.{cond_both, cond-true, cond-false, eq-eqb, ne_eqb, and_right}
 use Rattle.agreement.specs.declared.Joining.{Joining}
-use Rattle.agreement.specs.Content.{Service, Content, Proposal, seven, called, joined}
-use Rattle.agreement.specs.Machine.{is_self, Forwarded, Waiting, Mind, accepted, content_of, Turn, still, Job, DoCall, DoJoin, call_fits, join_fits, call_job, join_job, after, first_from, own_call, own_head, join_at, call_at, first_of, next_job, proposes, next_of, job_of, with_joins, with_calls, does, may_serve, serve, has_job}
+use Rattle.agreement.specs.Content.{Service, seven, called, joined}
+use Rattle.agreement.specs.Machine.{Forwarded, Waiting, Mind, accepted, content_of, Turn, still, Job, DoCall, DoJoin, call_fits, join_fits, call_job, join_job, own_call, own_head, join_at, call_at, first_of, next_job, proposes, next_of, job_of, with_joins, with_calls, does, may_serve, serve, has_job}
 use Rattle.agreement.proofs.Seven.{get_seven, get_set_here, get_set_other}
 use Rattle.agreement.proofs.Settling.{first_none, first_only, far_from}
 
@@ -26,7 +26,7 @@ module _ {sv : Service} (m : Mind sv) where
       ap (λ (o : Option (Job sv)). option_or o (first_of (call_at m) m)) (joins_none e)
       ∙ first_none (call_at m) (λ j. ap (λ (o : Option (Forwarded sv)). call_job (accepted m) j o) (none' j)) m.agreement.all m.agreement.all m.agreement.turn
     where
-      none' : (j : ℕ) → cond (is_self m j) (own_head m.waiting m) (get_or m.calls j None) ≡ None
+      none' : (j : ℕ) → cond (eqb j m.agreement.me) (own_head m.waiting m) (get_or m.calls j None) ≡ None
       none' j = cond_both (eqb j m.agreement.me) (own_head m.waiting m) (get_or m.calls j None) (λ (o : Option (Forwarded sv)). o ≡ None) (λ _. ap (λ (ts : List (Waiting sv)). own_head ts m) w) (λ _. calls_none f j)
 
   pub has_none : next_job m ≡ None → has_job m ≡ false

@@ -1,23 +1,22 @@
 -- From stage to stage of a phase: who was elected leads; a leader that settles and proposes anew leads on; a turn of one that recovers leaves the leader leading; and what is bounded at the end.
-use Rattle.std.proofs.Common.{◌≡◌, ℕ, zero, suc, ◌+◌, ◌*◌, ◌<◌, ◌≤◌, Bool, true, false, cond, not, ◌&&◌, ◌⊎◌, List, [], ◌∷◌, ◌++◌, length, get_or, set, Some, None, Option, sym, refl, ap, ◌∙◌, subst, inl, inr, ⊎_elim, arith}
+use Rattle.std.proofs.Common.{◌≡◌, ℕ, suc, ◌*◌, ◌<◌, ◌≤◌, true, false, not, ◌&&◌, List, get_or, Some, None, sym, refl, ap, ◌∙◌, subst, ⊎_elim, arith}
 use mathlib.Core.List.{Memᴰ}
-use Rattle.std.proofs.lemmas.Bool.{cases_eq, cases_Bool, true≢false}
-use Rattle.runs.specs.Replicas.{Letter, Scene, Seen, Says, there, turned, whole, Goes}
+use Rattle.std.proofs.lemmas.Bool.{cases_eq, true≢false}
+use Rattle.runs.specs.Replicas.{Scene, Seen, Says, there, turned, whole, Goes}
 use Rattle.agreement.specs.declared.View.{View}
 use Rattle.agreement.specs.declared.Agreement.{Agreement}
-use Rattle.agreement.specs.declared.Role.TheVariants.{Leader}
 use Rattle.agreement.specs.Content.{Service, Proposal, id_of, seven}
 use Rattle.agreement.specs.Log.{Event}
-use Rattle.agreement.specs.Machine.{Msg, Propose, Mind, accepted, own_vote, making, quorum, Turn, code}
+use Rattle.agreement.specs.Machine.{Msg, Propose, Mind, accepted, own_vote, making, Turn, code}
 use Rattle.agreement.specs.Steady.{Steady}
 use Rattle.agreement.proofs.Seven.{get_set_here, length_set}
 use Rattle.agreement.proofs.Scenes.{at_same, un_there}
-use Rattle.agreement.proofs.Inv.{Self, MindInv}
+use Rattle.agreement.proofs.Inv.{MindInv}
 use Rattle.agreement.proofs.Stages.{Low, Follows, Elected}
-use Rattle.agreement.proofs.Steps.{letter, Reaches, Since, rel_at, since_stays, since_said, house_here, house_there, frail_there, whole_stays}
+use Rattle.agreement.proofs.Steps.{Reaches, rel_at, since_stays, since_said, house_here, house_there, frail_there, whole_stays}
 use Rattle.agreement.proofs.Counting.{one_is_no_quorum}
 use Rattle.agreement.proofs.CameIn.{came_in_below}
-use Rattle.agreement.proofs.Rounds.{Followed, Leads, Beside, Settled, follows_still, polled, settling}
+use Rattle.agreement.proofs.Rounds.{Leads, Settled, follows_still, polled, settling}
 
 -- what is bounded of a replica at the end of a phase
 pub record Bounded {sv : Service} (st : Steady sv) (d : ℕ) (m : Mind sv) : Type 0 where

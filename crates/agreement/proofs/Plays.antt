@@ -1,8 +1,8 @@
 -- Runs are played from a script: an act that may happen is a step of `Goes`, one that may not is passed over. So a run is a term, and what clients see of it is computed.
-use Rattle.std.proofs.Common.{◌≡◌, ℕ, zero, suc, ◌+◌, ◌*◌, ◌<◌, ◌≤◌, Bool, true, false, cond, not, ◌&&◌, ◌||◌, T, eqb, ltb, leb, List, [], ◌∷◌, ◌++◌, Some, None, Option, sym, refl, ap, ◌∙◌, subst}
+use Rattle.std.proofs.Common.{◌≡◌, ℕ, zero, suc, ◌*◌, ◌<◌, Bool, true, false, not, ◌&&◌, T, eqb, ltb, List, [], ◌∷◌, Some, None, Option, refl}
 use mathlib.Core.List.{Memᴰ}
 use Rattle.std.proofs.lemmas.Bool.{and_parts, ltb-true, eqb-true}
-use Rattle.runs.specs.Replicas.{Letter, House, gone, there, Scene, Seen, Said, Call', Beat, at, how_many, was_asked, is_in, Goes, first, hears, is_asked, beats, falls, wakes}
+use Rattle.runs.specs.Replicas.{Letter, House, gone, there, Scene, Seen, at, how_many, was_asked, is_in, Goes, first, hears, is_asked, beats, falls, wakes}
 use Rattle.agreement.specs.Content.{Service, limit}
 use Rattle.agreement.specs.Machine.{Msg, Mind, code}
 

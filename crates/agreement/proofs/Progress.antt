@@ -1,11 +1,11 @@
 -- PROGRESS AND HEALING of the machine, for any service whose states grow slowly: from every scene that a run can reach, a group of which more than half are whole answers every call that waits with it and makes each of it whole.
-use Rattle.std.proofs.Common.{◌≡◌, ℕ, zero, suc, ◌+◌, ◌<◌, ◌≤◌, false, ◌⊎◌, List, [], ◌∷◌, length, sym, refl, ap, ◌∙◌, subst, inl, inr, ⊎_elim, arith}
+use Rattle.std.proofs.Common.{◌≡◌, ℕ, ◌+◌, ◌<◌, ◌≤◌, false, List, [], ◌∷◌, length, sym, refl, ap, ◌∙◌, subst, ⊎_elim, arith}
 use mathlib.Core.List.Memᴰ
 use mathlib.Core.List.{Memᴰ}
 use Rattle.std.proofs.lemmas.Bool.{cases_eq}
 use Rattle.std.proofs.lemmas.Bool.Decides.{nat_tests}
-use Rattle.runs.specs.Replicas.{Scene, Seen, Waits, gave, there, Goes}
-use Rattle.runs.specs.Progress.{Among, stay, Enough, AnswersAndHeals}
+use Rattle.runs.specs.Replicas.{Scene, Seen, Waits, gave, Goes}
+use Rattle.runs.specs.Progress.{Among, stay, Enough, AnswersAndHealsWithin}
 use Rattle.agreement.specs.Content.{Service}
 use Rattle.agreement.specs.Machine.{Msg, Mind, Waiting, code}
 use Rattle.agreement.specs.Steady.{Steady}
@@ -17,7 +17,7 @@ use Rattle.agreement.proofs.Alone.{alone}
 use Rattle.agreement.proofs.Election.{elected}
 use Rattle.agreement.proofs.Answering.{answering}
 use Rattle.agreement.proofs.Healing.{healing}
-use Rattle.agreement.proofs.GettingOn.{waiting_at, From, Whole, Gets, CallPhase, HealPhase, answers_them}
+use Rattle.agreement.proofs.GettingOn.{waiting_at, Gets, CallPhase, HealPhase, answers_them}
 
 module _ {sv : Service} (st : Steady sv) (all : ℕ) (two : 2 ≤ all) (few : all ≤ 7) (group : List ℕ) where
   call_phase : CallPhase st all group
@@ -39,7 +39,7 @@ module _ {sv : Service} (st : Steady sv) (all : ℕ) (two : 2 ≤ all) (few : al
       empty [] e = refl
       empty (x ∷ xs) e = absurd (omega (arith, e))
 
-pub answers_and_heals : (sv : Service) → Steady sv → AnswersAndHeals (code sv)
+pub answers_and_heals : (sv : Service) (st : Steady sv) → AnswersAndHealsWithin st.most (code sv)
 answers_and_heals sv st all n one few short es s g group e = ⊎_elim (λ q. lone all q g e) (λ ne. answers_them st all group (call_phase st all (two ne) few group) (heal_phase st all (two ne) few group) n few short es s g e) (cases_eq all 1)
   where
     two : (all ≡ 1 → ⊥) → 2 ≤ all

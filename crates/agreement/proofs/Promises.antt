@@ -1,7 +1,7 @@
 -- PROMISES: once a replica of the group stands for a view above all views of the group, each of the others that is whole promises it that view, and tells it what it holds.
-use Rattle.std.proofs.Common.{◌≡◌, ℕ, zero, suc, ◌<◌, ◌≤◌, Bool, true, false, not, ◌&&◌, eqb, ◌⊎◌, List, [], ◌∷◌, sym, refl, ap, ◌∙◌, subst, inl, inr, ⊎_elim, arith}
+use Rattle.std.proofs.Common.{◌≡◌, ℕ, zero, suc, ◌<◌, ◌≤◌, Bool, true, false, not, ◌&&◌, eqb, ◌⊎◌, List, [], ◌∷◌, sym, refl, ap, ◌∙◌, subst, inl, inr, arith}
 use mathlib.Core.List.{Memᴰ}
-use Rattle.std.proofs.lemmas.Bool.{cond-true, cond-false, and_parts, and_from, not-true, not_from_false, or_left, or_right, or_cases, eqb-true, eq-eqb, ne_eqb, lt-ltb, le-ltb, and_left, cases_eq, cases_Bool, true≢false, false≢true}
+use Rattle.std.proofs.lemmas.Bool.{cond-true, cond-false, and_parts, and_from, not-true, not_from_false, ne_eqb, lt-ltb, le-ltb, and_left, cases_eq, cases_Bool, true≢false}
 use Rattle.runs.specs.Replicas.{Does, Says, Said, Scene, Seen, there, is_in, Goes, turned}
 use Rattle.agreement.specs.declared.View.{View}
 use Rattle.agreement.specs.Content.{Service, rank, FitView}

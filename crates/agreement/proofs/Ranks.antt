@@ -1,5 +1,5 @@
 -- Views as numbers: the first is 0, the leader and its incarnation can be read off, and a view of a higher number is higher.
-use Rattle.std.proofs.Common.{◌≡◌, ℕ, suc, ◌+◌, ◌*◌, ◌/◌, ◌%◌, ◌<◌, ◌≤◌, refl, arith}
+use Rattle.std.proofs.Common.{◌≡◌, ℕ, suc, ◌<◌, ◌≤◌, refl, arith}
 use Rattle.agreement.specs.declared.View.{View}
 use Rattle.agreement.specs.Content.{limit, rank, first_view, leader_of, inc_of, FitView}
 

@@ -1,13 +1,12 @@
 -- What one that recovers does when the leader speaks to it: it asks to be written in, keeps a proposal that names it, and is whole as soon as it hears that it is chosen. And that the leader takes up what it asks for.
-use Rattle.std.proofs.Common.{◌≡◌, ℕ, suc, ◌<◌, ◌≤◌, Bool, true, false, cond, not, ◌&&◌, ◌||◌, eqb, ltb, leb, List, [], ◌∷◌, ◌++◌, get_or, set, Some, None, Option, sym, refl, ap, ◌∙◌, subst, arith}
+use Rattle.std.proofs.Common.{◌≡◌, ℕ, Bool, true, false, cond, ◌&&◌, eqb, set, Some, refl, ap, ◌∙◌}
 use Rattle.std.proofs.lemmas.Bool.{cond-true, cond-false, and_left, and_right, and_from, true≢false}
-use Rattle.runs.specs.Replicas.{Said, Does, Says, Gives, Whole', whole}
-use Rattle.agreement.specs.declared.ProposalId.{ProposalId}
+use Rattle.runs.specs.Replicas.{Said, whole}
 use Rattle.agreement.specs.declared.Joining.{Joining}
 use Rattle.agreement.specs.declared.Role.{Role}
 use Rattle.agreement.specs.declared.Role.TheVariants.{Recovering, Follower, Candidate, Leader}
-use Rattle.agreement.specs.Content.{Service, Proposal, limit, roster}
-use Rattle.agreement.specs.Machine.{Msg, Propose, Alive, Join, Mind, accepted, is_member, is_leader, names, Turn, still, says, then_do, forward, learn, enter, join_fits, with_joins, keeping, takes_up, welcome, follows, is_named, implied, may_hold, hold_or_not, offered, take_or_not, leads, on_propose, holds, is_welcome, alive_here, alive_there, on_alive, may_serve, does, next_job, serve, on_join, hears, turn}
+use Rattle.agreement.specs.Content.{Service, Proposal, roster}
+use Rattle.agreement.specs.Machine.{Propose, Alive, Join, Mind, accepted, is_member, is_leader, Turn, still, says, then_do, learn, enter, join_fits, with_joins, keeping, takes_up, welcome, follows, is_named, implied, may_hold, hold_or_not, offered, take_or_not, leads, on_propose, is_welcome, alive_here, alive_there, on_alive, may_serve, does, next_job, serve, on_join, hears, turn}
 use Rattle.agreement.proofs.Carried.{forward_head_mind}
 
 not_leader : (r : Role) → is_member r ≡ false → is_leader r ≡ false

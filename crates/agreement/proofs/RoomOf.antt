@@ -1,10 +1,9 @@
 -- A trace is a room's: for every choice of when the reads that are not answered yet are done. Which answer of a read that is under way will be taken is not known before it is given; so it is proved for every choice.
-use Rattle.std.proofs.Common.{◌≡◌, ℕ, zero, suc, ◌+◌, ◌<◌, ◌≤◌, Bool, true, false, cond, ◌||◌, eqb, ◌⊎◌, List, [], ◌∷◌, ◌++◌, length, sym, refl, ap, ◌∙◌, subst, inl, inr, ⊎_elim, arith}
+use Rattle.std.proofs.Common.{◌≡◌, ℕ, suc, ◌<◌, ◌≤◌, Bool, true, false, eqb, ◌⊎◌, List, [], ◌∷◌, ◌++◌, length, sym, refl, ap, ◌∙◌, inl, inr, ⊎_elim, arith}
 use mathlib.Core.List.Memᴰ
 use mathlib.Core.List.{Memᴰ}
-use Rattle.std.proofs.lemmas.Bool.Decides.{nat_tests}
-use Rattle.std.proofs.lemmas.Bool.{cases_eq, cases_Bool, cases_lt, true≢false, or_parts, eq-eqb, eqb-false}
-use Rattle.runs.specs.Replicas.{at, Seen, asked, gave}
+use Rattle.std.proofs.lemmas.Bool.{cases_eq, cases_Bool, cases_lt, true≢false, or_parts, eqb-false}
+use Rattle.runs.specs.Replicas.{at, asked, gave}
 use Rattle.runs.specs.Room.{Clerk, Open, Ready, Room, opens, comes_in, is_done, goes_out, handed_back}
 use Rattle.agreement.proofs.Trace.{Tick, Asked, Moved, Gave, AtOnce, state_of, seen_of, was_moved, was_given, Tail, whole, later, Way, wrote, read_at, Quickly, Trace, none, asks, moves, gives, once}
 use Rattle.agreement.proofs.Scenes.{at_same, at_other}

@@ -1,17 +1,16 @@
 -- A ROUND of votes: a replica that leads, and has offered what it holds to all others, gets the vote of each whole replica of the group, one after the other, until it has a quorum; at that vote it settles.
 -- The quorum is certain: whoever is whole is named by what the leader holds, so that its vote counts, and the whole ones of the group are more than half of all.
-use Rattle.std.proofs.Common.{◌≡◌, ℕ, zero, suc, ◌+◌, ◌*◌, ◌<◌, ◌≤◌, Bool, true, false, cond, not, ◌&&◌, ◌||◌, eqb, ltb, leb, ◌⊎◌, List, [], ◌∷◌, ◌++◌, length, get_or, set, Some, None, Option, sym, refl, ap, ◌∙◌, subst, inl, inr, ⊎_elim, arith}
+use Rattle.std.proofs.Common.{◌≡◌, ℕ, zero, suc, ◌*◌, ◌<◌, ◌≤◌, Bool, true, false, not, ◌&&◌, ◌⊎◌, List, length, get_or, set, Some, None, Option, sym, refl, ap, ◌∙◌, subst, inl, inr, ⊎_elim, arith}
 use mathlib.Core.List.{Memᴰ}
-use Rattle.std.proofs.lemmas.Bool.{cond-true, cond-false, cases_eq, cases_Bool, true≢false, false≢true, and_parts, and_from, and_right, eq-eqb, not-true, lt-ltb}
+use Rattle.std.proofs.lemmas.Bool.{cond-true, cond-false, cases_eq, cases_Bool, true≢false, and_parts, and_from, and_right, eq-eqb, not-true, lt-ltb}
 use Rattle.runs.specs.Replicas.{Letter, Scene, Seen, Said, there, turned, how_many, is_in, Goes}
 use Rattle.runs.specs.Progress.{Enough}
 use Rattle.agreement.specs.declared.View.{View}
-use Rattle.agreement.specs.declared.Place.{Place}
 use Rattle.agreement.specs.declared.Role.{Role}
-use Rattle.agreement.specs.declared.Role.TheVariants.{Follower, Leader}
-use Rattle.agreement.specs.Content.{Service, Proposal, rank, id_of, fresh_place, roster}
-use Rattle.agreement.specs.Agree.{Found, held}
-use Rattle.agreement.specs.Machine.{Msg, Propose, Accepted, Mind, accepted, is_member, is_vote, counts, quorum, Turn, still, then_do, become, with_heard, learned, tell_done, answer, serve, is_leader, is_settled, settle, leads, holds, names, heard_from, counted, count_vote, on_accepted, hears, turn, code}
+use Rattle.agreement.specs.declared.Role.TheVariants.{Leader}
+use Rattle.agreement.specs.Content.{Service, Proposal, rank, id_of, roster}
+use Rattle.agreement.specs.Agree.{held}
+use Rattle.agreement.specs.Machine.{Msg, Propose, Accepted, Mind, accepted, is_member, counts, quorum, Turn, still, then_do, become, with_heard, learned, tell_done, answer, serve, is_leader, is_settled, settle, leads, holds, names, heard_from, counted, count_vote, on_accepted, hears, turn, code}
 use Rattle.agreement.specs.Steady.{Steady}
 use Rattle.agreement.proofs.Seven.{get_set_here, get_set_other, length_set}
 use Rattle.agreement.proofs.Runs.{member_is_named}

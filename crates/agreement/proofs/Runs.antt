@@ -1,28 +1,26 @@
 -- Whatever happens to the replicas, there is a history behind it, over which the invariant holds of each replica and each letter (Rel): by induction over runs. Then what follows: one line, members are named, what is said fits.
-use Rattle.std.proofs.Common.{◌≡◌, ℕ, zero, suc, ◌+◌, ◌*◌, ◌/◌, ◌%◌, ◌<◌, ◌≤◌, max, Bool, true, false, cond, not, ◌&&◌, ◌||◌, T, eqb, ◌⊎◌, List, [], ◌∷◌, ◌++◌, length, get_or, Some, None, Option, sym, refl, ap, ◌∙◌, subst, inl, inr, ⊎_elim, arith, T_not}
+use Rattle.std.proofs.Common.{◌≡◌, ℕ, ◌<◌, ◌≤◌, Bool, true, false, cond, not, T, eqb, ◌⊎◌, List, [], ◌∷◌, ◌++◌, length, Some, None, Option, sym, refl, ap, ◌∙◌, subst, inl, inr, ⊎_elim, arith, T_not}
 use mathlib.Core.List.Memᴰ
 use mathlib.Core.List.{Memᴰ}
 use Rattle.std.proofs.lemmas.Bool.Decides.{nat_tests}
-use Rattle.std.proofs.lemmas.Bool.{cond_both, and_parts, eqb-true, cases_lt, cases_eq, true≢false, false≢true, not-true, eq-eqb, ne_eqb, cond-true, cond-false, cases_Bool, or_left, or_right, or_cases}
-use Rattle.runs.specs.Replicas.{Letter, Does, Says, Gives, Whole', posted, House, there, gone, Scene, Seen, asked, gave, given, was_asked, Said, Call', Beat, at, is_in, New, Goes, first, hears, is_asked, beats, falls, wakes, turned, with_call, woken, fallen}
-use Rattle.agreement.specs.declared.View.{View}
+use Rattle.std.proofs.lemmas.Bool.{cond_both, eqb-true, cases_lt, cases_eq, true≢false, false≢true, ne_eqb, cases_Bool, or_left, or_right, or_cases}
+use Rattle.runs.specs.Replicas.{Letter, Does, Says, Gives, Whole', posted, there, gone, Scene, Seen, asked, given, was_asked, Said, Beat, at, is_in, New, Goes, first, hears, is_asked, beats, falls, wakes, turned, with_call, woken, fallen}
 use Rattle.agreement.specs.declared.Role.{Role}
-use Rattle.agreement.specs.declared.Role.TheVariants.{Recovering, Follower, Candidate, Leader}
+use Rattle.agreement.specs.declared.Role.TheVariants.{Recovering, Follower, Leader}
 use Rattle.agreement.specs.declared.Place.{Place}
-use Rattle.agreement.specs.declared.Joining.{Joining}
-use Rattle.agreement.specs.Facts.{World, Chosen, at_first, by_votes, Welcome, Line, here, onward}
-use Rattle.agreement.specs.Content.{Service, Proposal, limit, rank, id_of, view_of, leader_of, inc_of, root, place_at, roster, seven, first_view, FitView, FitProposal}
-use Rattle.agreement.specs.Log.{Event, draws, asks, ask_of, is_used, makes, votes, pledges, At, age_in, top, pledge_of, vote_of, made_of, world, Ok, Log, begins, goes_on}
-use Rattle.agreement.specs.Machine.{Msg, Prepare, Promise, Propose, Alive, Accepted, Join, Forward, is_member, Waiting, Mind, accepted, Turn, turn, is_full, wait_or_not, quick_or_not, first_role, woken_as, woke, code}
+use Rattle.agreement.specs.Facts.{at_first, Welcome, Line, here, onward}
+use Rattle.agreement.specs.Content.{Service, Proposal, limit, rank, id_of, root, place_at, roster, seven, first_view, FitView}
+use Rattle.agreement.specs.Log.{Event, draws, asks, ask_of, is_used, makes, votes, pledges, age_in, top, pledge_of, vote_of, made_of, world, Log, begins, goes_on}
+use Rattle.agreement.specs.Machine.{Msg, Prepare, Promise, Propose, Alive, Accepted, Join, Forward, Waiting, Mind, accepted, Turn, turn, is_full, wait_or_not, quick_or_not, first_role, woke, code}
 use Rattle.agreement.specs.Agree.{Found, held, brought, reported', Told, known', said, IsChosen, Accord, OneLine, MemberIsNamed}
 use Rattle.agreement.specs.Said.{ToOthers, FitWord, SaidFits}
 use Rattle.agreement.proofs.Scenes.{at_same, at_other, un_there, was_given}
-use Rattle.agreement.proofs.Age.{age_stays, age_below, age_one}
+use Rattle.agreement.proofs.Age.{age_below, age_one}
 use Rattle.agreement.proofs.Ranks.{rank_first}
 use Rattle.agreement.proofs.Seven.{get_seven}
 use Rattle.agreement.proofs.History.{drawn, zero_drawn, once, facts, pledge_made, vote_made, made_fits, base_of}
 use Rattle.agreement.proofs.Heart.{agreement, grows}
-use Rattle.agreement.proofs.Inv.{by_replica, Member, Outsider, Self, unanswered, Holds, VoterInv, JobsInv, QueueInv, MindInv, WordInv, LetterInv, Other, Well, word_stays, voter_stays, mind_stays}
+use Rattle.agreement.proofs.Inv.{Member, Self, unanswered, Holds, JobsInv, MindInv, WordInv, LetterInv, Well, word_stays, mind_stays}
 use Rattle.agreement.proofs.Moves.{Ext, same, more, Good, ext_log, ext_age, ext_used, ext_word, chosen_made}
 use Rattle.agreement.proofs.Changes.{none_some}
 use Rattle.agreement.proofs.Turns.{hears_good, on_beat_good, asked_now, ask_ok, starts_good, waits_good}

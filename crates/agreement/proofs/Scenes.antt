@@ -1,7 +1,7 @@
 -- Scenes: a function that is changed at one place, and what answers leave as it is.
 use Rattle.std.proofs.Common.{◌≡◌, ℕ, eqb, List, [], ◌∷◌, ◌++◌, refl}
 use Rattle.std.proofs.lemmas.Bool.{eq-eqb, ne_eqb, cond-true, cond-false}
-use Rattle.runs.specs.Replicas.{Does, Says, Gives, Whole', House, there, Seen, asked, gave, at, given, was_asked}
+use Rattle.runs.specs.Replicas.{Does, Says, Gives, Whole', there, Seen, at, given, was_asked}
 use Rattle.agreement.specs.Content.{Service}
 use Rattle.agreement.specs.Machine.{Msg}
 

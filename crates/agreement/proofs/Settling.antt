@@ -1,19 +1,16 @@
 -- What a leader does when what it holds is chosen: it tells whose job it was, answers, and takes the next job. Its view stays, its state grows by one call at most, and no more calls wait; and where it makes a proposal, that is not chosen yet and is offered to all others.
-use Rattle.std.proofs.Common.{◌≡◌, ℕ, zero, suc, ◌+◌, ◌-◌, ◌*◌, ◌<◌, ◌≤◌, Bool, true, false, cond, not, ◌&&◌, ◌||◌, eqb, ltb, leb, ◌⊎◌, List, [], ◌∷◌, ◌++◌, length, get_or, set, is_some, Some, None, Option, sym, refl, ap, ◌∙◌, subst, inl, inr, ⊎_elim, arith}
+use Rattle.std.proofs.Common.{◌≡◌, ℕ, zero, suc, ◌+◌, ◌-◌, ◌<◌, ◌≤◌, false, cond, eqb, leb, ◌⊎◌, List, [], ◌∷◌, length, get_or, set, is_some, Some, None, Option, sym, refl, ap, ◌∙◌, subst, inl, inr, arith}
 use mathlib.Core.List.Memᴰ
 use mathlib.Core.List.{Memᴰ}
 use Rattle.std.specs.Option.{option_or}
 use Rattle.std.proofs.lemmas.Bool.Decides.{nat_tests}
-use Rattle.std.proofs.lemmas.Bool.{cond_both, cond-true, cond-false, cases_eq, and_left, and_right, ne_eqb, eq-eqb}
-use Rattle.runs.specs.Replicas.{Does, Says, Gives, Whole'}
-use Rattle.agreement.specs.declared.View.{View}
-use Rattle.agreement.specs.declared.Role.{Role}
-use Rattle.agreement.specs.declared.Role.TheVariants.{Leader}
-use Rattle.agreement.specs.Content.{Service, Content, Proposal, limit, called, joined}
-use Rattle.agreement.specs.Machine.{Msg, Propose, Waiting, Mind, accepted, content_of, is_member, is_leader, names, Turn, still, says, then_do, word_to, alive_to, tell_all, tell_done, forward, may_answer, reply_to, hands, answer_head, answer, learned, making, alone, own_vote, Job, DoCall, DoJoin, after, first_from, next_job, proposes, next_of, job_of, with_joins, with_calls, with_waiting, does, may_serve, serve}
+use Rattle.std.proofs.lemmas.Bool.{cond_both, cond-false, cases_eq, and_left, and_right, ne_eqb}
+use Rattle.runs.specs.Replicas.{Does, Says}
+use Rattle.agreement.specs.Content.{Service, Content, Proposal, called, joined}
+use Rattle.agreement.specs.Machine.{Msg, Propose, Waiting, Mind, accepted, content_of, is_member, Turn, still, then_do, word_to, alive_to, tell_all, tell_done, may_answer, reply_to, hands, answer_head, answer, learned, making, alone, own_vote, Job, DoCall, DoJoin, after, first_from, next_job, proposes, next_of, job_of, with_joins, with_calls, with_waiting, does, may_serve, serve}
 use Rattle.agreement.specs.Steady.{Steady}
 use Rattle.agreement.proofs.Carried.{forward_head_mind}
-use Rattle.agreement.proofs.Votes.{Akin, akin_self, akin_trans, answer_akin}
+use Rattle.agreement.proofs.Votes.{answer_akin}
 use Rattle.agreement.proofs.Counting.{own_vote_else, one_is_no_quorum}
 use Rattle.agreement.proofs.Steps.{to_each_says}
 use Rattle.agreement.proofs.Rounds.{settling}

@@ -1,5 +1,5 @@
 -- Lists as arrays: what is read after a place was set.
-use Rattle.std.proofs.Common.{◌≡◌, ℕ, zero, suc, ◌<◌, ◌⊎◌, List, [], ◌∷◌, length, get_or, set, sym, refl, ap, ◌∙◌, subst, inl, inr, ⊎_elim, arith}
+use Rattle.std.proofs.Common.{◌≡◌, ℕ, zero, suc, ◌<◌, ◌⊎◌, List, [], ◌∷◌, length, get_or, set, refl, ap, inl, inr, ⊎_elim, arith}
 use Rattle.agreement.specs.Content.{seven}
 
 pub get_seven : {A : Type 0} (x : A) (s : ℕ) → get_or (seven x) s x ≡ x

@@ -1,6 +1,6 @@
 -- In one turn numbers rise by at most one: the number of a view where a replica stands, and how far a state has come by one call where a job is done. And a call that waits goes on waiting, or is answered.
 -- So in a run of n steps no number is above n (Bounds.antt), and the tests on numbers pass.
-use Rattle.std.proofs.Common.{◌≡◌, ℕ, zero, suc, ◌+◌, ◌*◌, ◌<◌, ◌≤◌, Bool, true, false, cond, not, ◌&&◌, ◌||◌, eqb, ltb, leb, ◌⊎◌, List, [], ◌∷◌, ◌++◌, length, get_or, set, is_some, Some, None, Option, sym, refl, ap, ◌∙◌, subst, inl, inr, ⊎_elim, arith}
+use Rattle.std.proofs.Common.{◌≡◌, ℕ, zero, suc, ◌+◌, ◌*◌, ◌≤◌, Bool, true, false, cond, not, ◌&&◌, ◌||◌, eqb, ltb, leb, ◌⊎◌, List, [], ◌∷◌, ◌++◌, length, get_or, set, is_some, Some, None, Option, refl, ap, subst, inl, inr, ⊎_elim, arith}
 use mathlib.Core.List.Memᴰ
 use mathlib.Core.List.{Memᴰ}
 use Rattle.std.specs.Option.{option_or}
@@ -9,8 +9,8 @@ use Rattle.runs.specs.Replicas.{Does, Says, Gives, Whole'}
 use Rattle.agreement.specs.declared.View.{View}
 use Rattle.agreement.specs.declared.ProposalId.{ProposalId}
 use Rattle.agreement.specs.declared.Joining.{Joining}
-use Rattle.agreement.specs.Content.{Service, Lawful, Content, Proposal, limit, rank, id_of, place_at, seven, called}
-use Rattle.agreement.specs.Machine.{has_promise, repeats, is_self, Msg, Prepare, Promise, Propose, Alive, Accepted, Join, Forward, is_member, is_candidate, is_leader, Forwarded, Waiting, Mind, accepted, content_of, names, counts, quorum, Turn, still, says, then_do, to_each, word_to, alive_to, tell, tell_all, tell_done, sends, forward_head, forward, may_answer, reply_to, hands, answer_head, answer, learn, Job, DoCall, DoJoin, call_fits, join_fits, call_job, join_job, after, first_from, own_head, join_at, call_at, first_of, next_job, proposes, does, may_serve, serve, is_settled, settle, lead, elect, takes_up, same_view, hold, welcome, enter, is_below, is_own, may_promise, is_mine, promise, is_higher, reported, on_prepare, on_promise, follows, is_named, implied, may_hold, is_late, hold_or_not, offered, take_or_not, leads, on_propose, holds, is_welcome, is_stale, alive_here, alive_there, on_alive, count_vote, on_accepted, on_join, on_forward, is_full, comes_in, wait_or_not, quick_or_not, on_call, may_stand, ask_all, stand, standing, own_view, anew, without_jobs, say_again, has_job, stand_or_not, on_beat, hears, turn, job_of, with_job, with_joins, with_calls, with_patience, with_heard}
+use Rattle.agreement.specs.Content.{Service, Content, Proposal, limit, rank, place_at, seven, called}
+use Rattle.agreement.specs.Machine.{Msg, Prepare, Promise, Propose, Alive, Accepted, Join, Forward, is_member, is_candidate, is_leader, Forwarded, Waiting, Mind, accepted, content_of, names, counts, quorum, Turn, still, says, then_do, to_each, word_to, tell, tell_all, tell_done, forward_head, forward, may_answer, reply_to, hands, answer_head, answer, learn, Job, DoCall, DoJoin, call_fits, join_fits, call_job, join_job, after, first_from, own_head, join_at, call_at, first_of, next_job, proposes, does, may_serve, serve, is_settled, settle, elect, takes_up, same_view, hold, welcome, enter, is_below, is_own, may_promise, is_mine, promise, is_higher, reported, on_prepare, on_promise, follows, is_named, implied, may_hold, is_late, hold_or_not, offered, take_or_not, leads, on_propose, holds, is_welcome, is_stale, alive_here, alive_there, on_alive, on_accepted, on_join, on_forward, is_full, comes_in, wait_or_not, quick_or_not, on_call, may_stand, ask_all, say_again, has_job, stand_or_not, on_beat, hears, job_of, with_job, with_joins, with_calls, with_patience, with_heard}
 use Rattle.agreement.specs.Steady.{Steady}
 use Rattle.agreement.proofs.CameIn.{Kept, then_has, fewer_wait, forward_counts, serve_counts}
 
@@ -52,7 +52,7 @@ module _ {sv : Service} where
   calm_job : (m : Mind sv) → CalmJob (accepted m) (next_job m)
   calm_job m =
       calm_or (accepted m) (first_of (join_at m) m) (first_of (call_at m) m) (calm_first (accepted m) (join_at m) (λ j. calm_join (accepted m) j (get_or m.agreement.joins j None)) m.agreement.all m.agreement.all m.agreement.turn)
-      (calm_first (accepted m) (call_at m) (λ j. calm_call (accepted m) j (cond (is_self m j) (own_head m.waiting m) (get_or m.calls j None))) m.agreement.all m.agreement.all m.agreement.turn)
+      (calm_first (accepted m) (call_at m) (λ j. calm_call (accepted m) j (cond (eqb j m.agreement.me) (own_head m.waiting m) (get_or m.calls j None))) m.agreement.all m.agreement.all m.agreement.turn)
 
 module _ {sv : Service} (fo : Follow sv) where
   -- a proposal, a mind, a message whose numbers are at most b
@@ -181,7 +181,7 @@ module _ {sv : Service} (fo : Follow sv) where
 
   ask_all_flat : Flat ask_all
   unfolding ask_all
-  ask_all_flat b m a = same b m m _ refl a (low_each b _ (λ j. cond_both (has_promise m j) _ _ (AllLow b) (λ _. tt) (λ _. (a.view, tt))) m.agreement.all)
+  ask_all_flat b m a = same b m m _ refl a (low_each b _ (λ j. cond_both (eqb j m.agreement.me || counts m.agreement.votes m.agreement.places j) _ _ (AllLow b) (λ _. tt) (λ _. (a.view, tt))) m.agreement.all)
 
   forward_head_flat : (ts : List (Waiting sv)) → Flat (forward_head ts)
   unfolding forward_head
@@ -328,7 +328,7 @@ module _ {sv : Service} (fo : Follow sv) where
 
   say_again_flat : Flat say_again
   unfolding say_again
-  say_again_flat b m a = cond_both (repeats m) _ _ (Slow b m) (λ _. tell_all_flat b m a) (λ _. cond_both (is_candidate m.agreement.role) _ _ (Slow b m) (λ _. ask_all_flat b m a) (λ _. still_flat b m a))
+  say_again_flat b m a = cond_both (is_leader m.agreement.role) _ _ (Slow b m) (λ _. tell_all_flat b m a) (λ _. cond_both (is_candidate m.agreement.role) _ _ (Slow b m) (λ _. ask_all_flat b m a) (λ _. still_flat b m a))
 
   stand_or_not_rises : Rises stand_or_not
   unfolding stand_or_not

@@ -1,11 +1,11 @@
 -- THE STAGES of the schedule by which a group gets on: what holds of a scene when one of the group has come to lead, and what numbers have to be bounded for that. Each stage is what the next one begins with.
-use Rattle.std.proofs.Common.{◌≡◌, ℕ, suc, ◌+◌, ◌*◌, ◌<◌, ◌≤◌, Bool, true, false, List, [], ◌∷◌, ◌++◌, length, Some, None, Option, arith}
+use Rattle.std.proofs.Common.{◌≡◌, ℕ, suc, ◌+◌, ◌*◌, ◌<◌, ◌≤◌, true, false, List, ◌++◌, length, None, arith}
 use mathlib.Core.List.{Memᴰ}
 use Rattle.runs.specs.Replicas.{Letter, Scene, Seen, there}
 use Rattle.runs.specs.Progress.{Among}
 use Rattle.agreement.specs.declared.View.{View}
 use Rattle.agreement.specs.declared.Role.TheVariants.{Follower, Leader}
-use Rattle.agreement.specs.Content.{Service, Proposal, id_of, seven, roster}
+use Rattle.agreement.specs.Content.{Service, Proposal, id_of, seven}
 use Rattle.agreement.specs.Machine.{Msg, Propose, Mind, accepted, own_vote, code}
 use Rattle.agreement.specs.Steady.{Steady}
 

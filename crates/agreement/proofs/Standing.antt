@@ -13,7 +13,7 @@ use Rattle.agreement.specs.declared.Agreement.{Agreement}
 use Rattle.agreement.specs.declared.Place.{Place}
 use Rattle.agreement.specs.Content.{Service, Content, Proposal, limit, seven, fresh_place, called, joined}
 use Rattle.agreement.specs.Steady.{Steady}
-use Rattle.agreement.specs.Machine.{repeats, Msg, Prepare, Mind, content_of, accepted, is_member, is_candidate, is_leader, is_vote, counts, own_vote, alone, making, Waiting, Turn, still, then_do, tell_all, may_answer, answer_head, proposes, Job, DoCall, DoJoin, next_job, next_of, job_of, with_calls, with_joins, does, may_serve, serve, forward, ask_to, ask_all, say_again, has_job, heard_most, ticks, may_stand, own_view, standing, anew, without_jobs, stand, stand_or_not, on_beat, turn, code}
+use Rattle.agreement.specs.Machine.{Msg, Prepare, Mind, content_of, accepted, is_member, is_candidate, is_leader, is_vote, counts, own_vote, alone, making, Waiting, Turn, still, then_do, tell_all, may_answer, answer_head, proposes, Job, DoCall, DoJoin, next_job, next_of, job_of, with_calls, with_joins, does, may_serve, serve, forward, ask_to, ask_all, say_again, has_job, heard_most, ticks, may_stand, own_view, standing, anew, without_jobs, stand, stand_or_not, on_beat, turn, code}
 use Rattle.agreement.proofs.Seven.{get_seven, get_set_other}
 use Rattle.agreement.proofs.Scenes.{at_same, at_other}
 use Rattle.agreement.proofs.Carried.{forward_head_mind}
@@ -50,7 +50,7 @@ module _ {sv : Service} where
 
   say_again_mind : (m : Mind sv) → (say_again m).mind ≡ m
   unfolding say_again tell_all ask_all
-  say_again_mind m = cond_both (repeats m) _ _ (λ (x : Turn sv). x.mind ≡ m) (λ _. refl) (λ _. cond_both (is_candidate m.agreement.role) _ _ (λ (x : Turn sv). x.mind ≡ m) (λ _. refl) (λ _. refl))
+  say_again_mind m = cond_both (is_leader m.agreement.role) _ _ (λ (x : Turn sv). x.mind ≡ m) (λ _. refl) (λ _. cond_both (is_candidate m.agreement.role) _ _ (λ (x : Turn sv). x.mind ≡ m) (λ _. refl) (λ _. refl))
 
 -- from the mind k to the mind y: nothing, or one job of a leader whose last proposal is chosen; then the next is not
 pub record Works {sv : Service} (st : Steady sv) (k y : Mind sv) : Type 0 where

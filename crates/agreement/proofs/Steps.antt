@@ -1,9 +1,9 @@
 -- One step of a group at a time: from a scene s the group came to t, and a beat, or a letter said since, takes it further. What was said since s stays said; a turn changes only the replica whose it is.
-use Rattle.std.proofs.Common.{◌≡◌, ℕ, zero, suc, ◌+◌, ◌<◌, ◌≤◌, Bool, true, false, cond, not, ◌&&◌, eqb, ◌⊎◌, List, [], ◌∷◌, ◌++◌, sym, refl, ap, ◌∙◌, subst, inl, inr, ⊎_elim, append_assoc, arith}
+use Rattle.std.proofs.Common.{◌≡◌, ℕ, zero, suc, ◌<◌, ◌≤◌, false, not, ◌&&◌, ◌⊎◌, List, [], ◌∷◌, ◌++◌, sym, refl, ap, ◌∙◌, subst, inl, inr, ⊎_elim, append_assoc, arith}
 use mathlib.Core.List.Memᴰ
 use mathlib.Core.List.{Memᴰ}
-use Rattle.std.proofs.lemmas.Bool.{cases_eq, and_left, cond_both}
-use Rattle.runs.specs.Replicas.{Letter, Does, Says, Gives, Whole', Scene, Seen, Said, Beat, there, at, posted, given, turned, whole, Goes}
+use Rattle.std.proofs.lemmas.Bool.{cases_eq, and_left}
+use Rattle.runs.specs.Replicas.{Letter, Does, Says, Gives, Whole', Scene, Seen, Said, Beat, there, posted, turned, whole, Goes}
 use Rattle.runs.specs.Progress.{Among, stay, talk, beat, wake}
 use Rattle.agreement.specs.Content.{Service}
 use Rattle.agreement.specs.Log.{Event}

@@ -1,5 +1,5 @@
 -- The small service is lawful, and grows slowly: it has no counts.
-use Rattle.std.proofs.Common.{◌≡◌, ℕ, suc, ◌+◌, Bool, true, false, cond, eqb, Some, None, Option, sym, refl, ◌∙◌, arith}
+use Rattle.std.proofs.Common.{◌≡◌, ℕ, ◌+◌, cond, eqb, Some, Option, refl, arith}
 use Rattle.std.proofs.lemmas.Bool.Decides.{nat_tests}
 use Rattle.std.proofs.lemmas.Bool.{cond_both, eqb-true}
 use Rattle.agreement.specs.Content.{Lawful}
@@ -18,5 +18,5 @@ lawful_sums =
       says = λ o k e. grind (arith, nat_tests);
     }
 
-pub steady_sums : Steady sums
-steady_sums = record { size = λ s. 0; starts = refl; grows = λ o s. omega arith; calm = λ s lt. refl }
+unfoldable pub steady_sums : Steady sums
+steady_sums = record { most = 72057594037927936; short = omega arith; size = λ s. 0; starts = refl; grows = λ o s. omega arith; calm = λ s lt. refl }

@@ -1,5 +1,5 @@
 -- The rows of the table: a script for each, played.
-use Rattle.std.proofs.Common.{◌≡◌, ℕ, zero, suc, ◌+◌, ◌*◌, ◌<◌, ◌≤◌, false, ◌&&◌, eqb, List, [], ◌∷◌, ◌++◌, sym, refl, ap, ◌∙◌, subst}
+use Rattle.std.proofs.Common.{◌≡◌, ℕ, false, ◌&&◌, eqb, List, [], ◌∷◌, ◌++◌, refl, ap, subst}
 use mathlib.Core.List.{Memᴰ}
 use Rattle.runs.specs.Replicas.{Said, Seen, Goes, there, posted, given, whole, without, answered_off, left_by, was_asked, how_many, is_in}
 use Rattle.std.proofs.lemmas.Bool.{cond-false, and_left, and_right}

@@ -1,5 +1,5 @@
 -- A trace: what replicas that agree have done, in order, as far as clients can tell: calls that came in, writes that were agreed on, answers that were given, and calls that were answered at once.
-use Rattle.std.proofs.Common.{◌≡◌, ℕ, Bool, true, false, cond, ◌||◌, eqb, ◌⊎◌, List, [], ◌∷◌, length}
+use Rattle.std.proofs.Common.{◌≡◌, ℕ, Bool, true, false, ◌||◌, eqb, ◌⊎◌, List, [], ◌∷◌}
 use mathlib.Core.List.{Memᴰ}
 use Rattle.runs.specs.Replicas.{Seen, asked, gave}
 use Rattle.runs.specs.Room.{Clerk}

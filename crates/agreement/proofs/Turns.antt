@@ -1,18 +1,16 @@
 -- Every turn of a replica keeps the invariant, whatever comes to it: a handler for each message, a call, a tick.
-use Rattle.std.proofs.Common.{◌≡◌, ℕ, zero, suc, ◌+◌, ◌*◌, ◌/◌, ◌%◌, ◌<◌, ◌≤◌, max, Bool, true, false, cond, not, ◌&&◌, ◌||◌, eqb, ltb, leb, ◌⊎◌, List, [], ◌∷◌, ◌++◌, length, get_or, set, Some, None, Option, sym, refl, ap, ◌∙◌, subst, inl, inr, ⊎_elim, arith}
-use mathlib.Core.List.{Memᴰ}
+use Rattle.std.proofs.Common.{◌≡◌, ℕ, suc, ◌+◌, ◌<◌, ◌≤◌, Bool, true, false, cond, not, ◌&&◌, eqb, ltb, ◌⊎◌, List, [], ◌∷◌, ◌++◌, length, get_or, set, Some, None, sym, refl, ap, ◌∙◌, subst, inl, inr, arith}
 use Rattle.std.proofs.lemmas.Bool.Decides.{nat_tests}
-use Rattle.std.proofs.lemmas.Bool.{cond_both, and_parts, or_parts, ltb-true, ltb-false, leb-true, eqb-true, not-true, not-false, true≢false, false≢true}
-use Rattle.runs.specs.Replicas.{Does, Says, Gives, Whole'}
+use Rattle.std.proofs.lemmas.Bool.{cond_both, and_parts, ltb-true, ltb-false, leb-true, eqb-true, true≢false, false≢true}
 use Rattle.agreement.specs.declared.View.{View}
 use Rattle.agreement.specs.declared.ProposalId.{ProposalId}
 use Rattle.agreement.specs.declared.Joining.{Joining}
-use Rattle.agreement.specs.Facts.{World, Quorum, Chosen, is_first}
-use Rattle.agreement.specs.Content.{Service, Content, Proposal, limit, rank, rank_id, id_of, view_in, view_of, leader_of, inc_of, roster, copied, FitView, FitProposal}
-use Rattle.agreement.specs.Log.{Event, asks, is_used, goes_on, makes, votes, pledges, At, age_in, top, made_of, world, Ok, MakesOk, Log, Step, Base}
-use Rattle.agreement.specs.Machine.{repeats, Msg, Prepare, Promise, Propose, Alive, Accepted, Join, Forward, is_member, is_candidate, is_leader, Forwarded, Waiting, Mind, accepted, content_of, names, counts, quorum, promising, promised, standing, reported, counted, learned, holding, keeping, entering, Turn, still, says, then_do, catch_up, tell, tell_all, tell_done, forward, answer, learn, call_fits, join_fits, proposes, copy_in, serve, is_settled, settle, lead, elect, takes_up, same_view, hold, welcome, enter, is_below, is_own, may_promise, is_mine, promise, on_prepare, on_promise, follows, is_named, implied, may_hold, is_late, hold_or_not, offered, take_or_not, leads, on_propose, holds, is_welcome, is_stale, alive_here, alive_there, on_alive, heard_from, count_vote, on_accepted, on_join, on_forward, is_full, comes_in, wait_or_not, quick_or_not, on_call, heard_most, ticks, may_stand, own_view, ask_all, stand, say_again, has_job, stand_or_not, on_beat, hears, turn, with_patience, with_heard, with_job, with_joins, with_calls, anew, without_jobs}
-use Rattle.agreement.proofs.History.{drawn, once, pledge_made, vote_made, made_small, passed, base_of}
-use Rattle.agreement.proofs.Inv.{Candid, Leading, Member, Holds, VoterInv, JoinOk, AskedAs, Lined, by_asking, voter_stays, join_stays, JobsInv, QueueInv, MindInv, WordInv, Other, Well}
+use Rattle.agreement.specs.Facts.{Chosen, is_first}
+use Rattle.agreement.specs.Content.{Service, Proposal, limit, rank, rank_id, id_of, view_of, roster, copied, FitView}
+use Rattle.agreement.specs.Log.{Event, asks, is_used, goes_on, votes, pledges, At, age_in, world, Ok, MakesOk, Log}
+use Rattle.agreement.specs.Machine.{Msg, Prepare, Promise, Propose, Alive, Accepted, Join, Forward, is_member, is_candidate, is_leader, Forwarded, Waiting, Mind, accepted, names, counts, quorum, counted, still, says, then_do, tell_done, forward, answer, learn, call_fits, join_fits, copy_in, serve, is_settled, settle, lead, elect, same_view, hold, welcome, enter, is_below, is_own, may_promise, is_mine, promise, on_prepare, on_promise, follows, is_named, implied, may_hold, is_late, hold_or_not, offered, take_or_not, leads, on_propose, holds, is_welcome, is_stale, alive_here, alive_there, on_alive, heard_from, count_vote, on_accepted, on_join, on_forward, comes_in, may_stand, own_view, ask_all, stand, say_again, has_job, stand_or_not, on_beat, hears, with_patience, with_heard, with_job}
+use Rattle.agreement.proofs.History.{drawn, once, vote_made, passed, base_of}
+use Rattle.agreement.proofs.Inv.{Candid, Leading, Member, VoterInv, JoinOk, AskedAs, Lined, by_asking, voter_stays, join_stays, QueueInv, MindInv, WordInv, Other, Well}
 use Rattle.agreement.proofs.Moves.{Ext, same, more, Good, Keeps, ext_word, ext_queue, then_good, then_keeps, still_good, still_keeps, says_good, catch_up_good, others, tell_keeps, tell_done_keeps, tell_all_keeps, ask_all_keeps, forward_keeps, answer_keeps}
 use Rattle.agreement.proofs.Changes.{vote_is, set_is, leader_member, candidate_member, no_jobs, chosen_is, made_view, fits_all, learned_inv, promised_ok, promised_to, promising_inv, own_fits, own_le, own_lt, standing_inv, making_good, reported_inv, member_votes, member_holds, welcome_votes, welcome_holds, keeping_inv, entering_inv}
 use Rattle.agreement.proofs.Jobs.{serve_keeps}
@@ -238,7 +236,7 @@ module _ {sv : Service} (all i : ℕ) where
   say_again_keeps : Keeps {sv = sv} all i say_again
   unfolding say_again
   say_again_keeps h lg m v =
-      cond_both (repeats m) _ _ (Good all h i) (λ _. tell_all_keeps all i h lg m v) (λ _. cond_both (is_candidate m.agreement.role) _ _ (Good all h i) (λ _. ask_all_keeps all i h lg m v) (λ _. still_good all i h m v))
+      cond_both (is_leader m.agreement.role) _ _ (Good all h i) (λ _. tell_all_keeps all i h lg m v) (λ _. cond_both (is_candidate m.agreement.role) _ _ (Good all h i) (λ _. ask_all_keeps all i h lg m v) (λ _. still_good all i h m v))
 
   stand_or_not_keeps : Keeps {sv = sv} all i stand_or_not
   unfolding stand_or_not

@@ -1,14 +1,13 @@
 -- A VOTE: a follower that is offered a proposal of its view, not below what it holds, holds it and says so to the leader, whatever else it does (it may answer a call of its own first).
-use Rattle.std.proofs.Common.{◌≡◌, ℕ, suc, ◌<◌, ◌≤◌, Bool, true, false, cond, ◌&&◌, eqb, ltb, leb, List, [], ◌∷◌, ◌++◌, Some, None, Option, sym, refl, ap, ◌∙◌, subst, arith}
+use Rattle.std.proofs.Common.{◌≡◌, ℕ, suc, ◌≤◌, true, false, cond, List, [], ◌∷◌, Some, None, Option, sym, refl, ap, ◌∙◌, subst, arith}
 use mathlib.Core.List.Memᴰ
 use mathlib.Core.List.{Memᴰ}
 use Rattle.std.proofs.lemmas.Bool.{cond_both, cond-true, cond-false, le-ltb, le-leb, and_left}
-use Rattle.runs.specs.Replicas.{Said, Does, Says, Gives, Whole'}
-use Rattle.agreement.specs.declared.View.{View}
+use Rattle.runs.specs.Replicas.{Said, Says}
 use Rattle.agreement.specs.declared.Role.{Role}
 use Rattle.agreement.specs.declared.Role.TheVariants.{Follower}
 use Rattle.agreement.specs.Content.{Service, Proposal, rank, id_of}
-use Rattle.agreement.specs.Machine.{Msg, Propose, Accepted, Waiting, Mind, accepted, is_member, is_leader, is_named, Turn, still, says, then_do, forward, may_answer, reply_to, hands, answer_head, answer, learn, learned, with_waiting, enter, same_view, takes_up, hold, follows, implied, is_late, may_hold, catch_up, hold_or_not, offered, take_or_not, leads, on_propose, hears, turn}
+use Rattle.agreement.specs.Machine.{Propose, Accepted, Waiting, Mind, accepted, is_member, is_leader, is_named, Turn, still, says, then_do, forward, may_answer, reply_to, hands, answer_head, answer, learn, learned, with_waiting, enter, same_view, takes_up, hold, follows, implied, is_late, may_hold, catch_up, hold_or_not, offered, take_or_not, leads, on_propose, hears, turn}
 use Rattle.agreement.proofs.Carried.{forward_head_mind}
 
 -- n is the mind m but for what it knows to be chosen and its own calls

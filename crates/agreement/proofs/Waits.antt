@@ -1,16 +1,14 @@
 -- In every turn: only calls that wait are answered, the oldest first, each once, by what the clerk may say; a member stays one, and one that becomes a member says that it is whole.
-use Rattle.std.proofs.Common.{◌≡◌, ℕ, zero, suc, ◌+◌, ◌*◌, ◌/◌, ◌%◌, ◌<◌, ◌≤◌, max, Bool, true, false, cond, not, ◌&&◌, ◌||◌, eqb, ltb, leb, ◌⊎◌, List, [], ◌∷◌, ◌++◌, length, get_or, set, is_some, Some, None, Option, sym, refl, ap, ◌∙◌, subst, inl, inr, ⊎_elim, arith}
+use Rattle.std.proofs.Common.{◌≡◌, ℕ, zero, suc, Bool, true, false, cond, not, ◌&&◌, ◌||◌, eqb, ltb, ◌⊎◌, List, [], ◌∷◌, ◌++◌, length, get_or, set, Some, None, Option, sym, refl, ap, ◌∙◌, subst, inl, inr, ⊎_elim, arith}
 use mathlib.Core.List.Memᴰ
 use mathlib.Core.List.{Memᴰ}
-use Rattle.std.proofs.lemmas.Bool.Decides.{nat_tests}
 use Rattle.std.proofs.lemmas.Bool.{cond_both, and_parts, and_from, eq-eqb, eqb-true, cases_Bool, true≢false, false≢true}
 use Rattle.runs.specs.Replicas.{Does, Says, Gives, Whole', Waits, without, answered_off, whole}
 use Rattle.agreement.specs.declared.View.{View}
 use Rattle.agreement.specs.declared.ProposalId.{ProposalId}
 use Rattle.agreement.specs.declared.Joining.{Joining}
-use Rattle.agreement.specs.declared.Role.{Role}
-use Rattle.agreement.specs.Content.{Service, Proposal, limit, rank, id_of, place_at, seven}
-use Rattle.agreement.specs.Machine.{has_promise, repeats, Msg, Prepare, Promise, Propose, Alive, Accepted, Join, Forward, is_member, is_candidate, is_leader, Forwarded, Waiting, Mind, accepted, names, counts, quorum, Turn, still, says, then_do, to_each, catch_up, word_to, alive_to, tell, tell_all, tell_done, sends, forward_head, forward, may_answer, say_kept, reply_to, hands, answer_head, answer, learn, Job, DoCall, DoJoin, call_fits, join_fits, next_job, proposes, does, may_serve, serve, is_settled, settle, lead, elect, takes_up, same_view, hold, welcome, enter, is_below, is_own, may_promise, is_mine, promise, on_prepare, on_promise, follows, is_named, implied, may_hold, is_late, hold_or_not, offered, take_or_not, leads, on_propose, holds, is_welcome, is_stale, alive_here, alive_there, on_alive, heard_from, count_vote, on_accepted, on_join, on_forward, is_full, comes_in, wait_or_not, quick_or_not, on_call, may_stand, ask_all, stand, say_again, has_job, stand_or_not, on_beat, hears, job_of, with_job, with_joins, with_calls, with_patience, with_heard}
+use Rattle.agreement.specs.Content.{Service, Proposal, limit, rank, place_at, seven}
+use Rattle.agreement.specs.Machine.{Msg, Prepare, Promise, Propose, Alive, Accepted, Join, Forward, is_member, is_candidate, is_leader, Forwarded, Waiting, Mind, accepted, names, counts, quorum, Turn, still, says, then_do, to_each, tell, tell_all, tell_done, forward_head, forward, may_answer, say_kept, reply_to, hands, answer_head, answer, learn, Job, DoCall, DoJoin, call_fits, join_fits, next_job, proposes, does, may_serve, serve, is_settled, settle, elect, takes_up, same_view, hold, welcome, enter, is_below, is_own, may_promise, is_mine, promise, on_prepare, on_promise, follows, is_named, implied, may_hold, is_late, hold_or_not, offered, take_or_not, leads, on_propose, holds, is_welcome, is_stale, alive_here, alive_there, on_alive, on_accepted, on_join, on_forward, is_full, comes_in, wait_or_not, quick_or_not, on_call, may_stand, ask_all, say_again, has_job, stand_or_not, on_beat, hears, job_of, with_job, with_joins, with_calls, with_patience, with_heard}
 use Rattle.agreement.proofs.Changes.{leader_member, candidate_member}
 
 abbrev pub Wait : (i n : ℕ) → Waits
@@ -177,7 +175,7 @@ module _ (sv : Service) (i : ℕ) (P : sv.R → Type 0) (pr : (o : sv.O) (s : sv
 
   ask_all_fair : Fairly {sv = sv} i P ask_all
   unfolding ask_all
-  ask_all_fair ws m w = quietly ws m m _ (quiet_each i _ (λ j. cond_both (has_promise m j) _ _ Quiet (λ _. tt) (λ _. tt)) m.agreement.all) w refl
+  ask_all_fair ws m w = quietly ws m m _ (quiet_each i _ (λ j. cond_both (eqb j m.agreement.me || counts m.agreement.votes m.agreement.places j) _ _ Quiet (λ _. tt) (λ _. tt)) m.agreement.all) w refl
 
   forward_head_fair : (ts : List (Waiting sv)) → Fairly {sv = sv} i P (forward_head ts)
   unfolding forward_head
@@ -320,7 +318,7 @@ module _ (sv : Service) (i : ℕ) (P : sv.R → Type 0) (pr : (o : sv.O) (s : sv
 
   say_again_fair : Fairly {sv = sv} i P say_again
   unfolding say_again
-  say_again_fair ws m w = cond_both (repeats m) _ _ (Fair i P ws m) (λ _. tell_all_fair ws m w) (λ _. cond_both (is_candidate m.agreement.role) _ _ (Fair i P ws m) (λ _. ask_all_fair ws m w) (λ _. still_fair ws m w))
+  say_again_fair ws m w = cond_both (is_leader m.agreement.role) _ _ (Fair i P ws m) (λ _. tell_all_fair ws m w) (λ _. cond_both (is_candidate m.agreement.role) _ _ (Fair i P ws m) (λ _. ask_all_fair ws m w) (λ _. still_fair ws m w))
 
   stand_or_not_fair : Fairly {sv = sv} i P stand_or_not
   unfolding stand_or_not

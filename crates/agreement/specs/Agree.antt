@@ -1,5 +1,5 @@
 -- ONE LINE: what is agreed on, over every run.
-use Rattle.std.specs.Prelude.{◌≡◌, ℕ, ◌<◌, ◌≤◌, Bool, true, false, ◌⊎◌, List, length}
+use Rattle.std.specs.Prelude.{◌≡◌, ℕ, ◌<◌, ◌≤◌, Bool, true, ◌⊎◌, List, length}
 use mathlib.Core.List.{Memᴰ}
 use Rattle.runs.specs.Replicas.{Letter, Scene, Seen, Goes, there}
 use Rattle.agreement.specs.declared.View.{View}

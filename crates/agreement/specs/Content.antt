@@ -1,5 +1,5 @@
 -- What is agreed on, step by step: the state of a service, and for each replica a place. The service is any: nothing of it is opened here.
-use Rattle.std.specs.Prelude.{◌≡◌, ℕ, zero, suc, ◌+◌, ◌*◌, ◌/◌, ◌%◌, ◌<◌, ◌≤◌, Bool, true, false, cond, not, ◌&&◌, ◌||◌, List, [], ◌∷◌, length, Some, None, Option, ◌≢◌, slice_index_or, slice_set}
+use Rattle.std.specs.Prelude.{◌≡◌, ℕ, suc, ◌+◌, ◌*◌, ◌/◌, ◌%◌, ◌<◌, Bool, true, false, cond, List, [], ◌∷◌, length, Some, None, Option, ◌≢◌, slice_index_or, slice_set}
 use Rattle.runs.specs.Room.{Clerk}
 use Rattle.agreement.specs.declared.View.{View}
 use Rattle.agreement.specs.declared.ProposalId.{ProposalId}

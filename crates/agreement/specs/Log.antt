@@ -1,5 +1,5 @@
 -- A history of what proposers and voters did, each thing with what had to hold when it was done.
-use Rattle.std.specs.Prelude.{◌≡◌, ℕ, suc, ◌+◌, ◌*◌, ◌/◌, ◌%◌, ◌<◌, ◌≤◌, max, Bool, true, false, cond, ◌&&◌, ◌||◌, ◌⊎◌, List, [], ◌∷◌, length, ◌==◌}
+use Rattle.std.specs.Prelude.{◌≡◌, ℕ, suc, ◌+◌, ◌<◌, ◌≤◌, max, Bool, false, cond, ◌&&◌, ◌||◌, ◌⊎◌, List, [], ◌∷◌, length, ◌==◌}
 use Rattle.agreement.specs.Facts.{World, Chosen, Origin, Welcome, ChosenInLine}
 use Rattle.agreement.specs.Content.{Service, Proposal, id_of, view_of, leader_of, inc_of, root, place_at, roster, Content, Change, copied, by_call, by_join, FitProposal}
 

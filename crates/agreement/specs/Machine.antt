@@ -1,7 +1,7 @@
 -- THE MACHINE: what a replica keeps, and what it does at each thing that comes, for any service.
 -- Four parts: what is said and kept; the few ways in which a mind changes; moves, which change a mind and say something; and a handler for each thing that comes.
 -- At most one new content is made or taken in a turn. Whatever carries a proposal carries the sender's accepted one.
-use Rattle.std.specs.Prelude.{◌≡◌, ℕ, zero, suc, ◌+◌, ◌-◌, ◌*◌, ◌/◌, ◌%◌, ◌<◌, ◌≤◌, Bool, true, false, cond, not, ◌&&◌, ◌||◌, List, [], ◌∷◌, ◌++◌, length, get_or, is_some, Some, None, Option, ◌==◌, nat_le, nat_lt, slice_index_or, slice_set}
+use Rattle.std.specs.Prelude.{ℕ, zero, suc, ◌+◌, ◌-◌, ◌*◌, ◌%◌, Bool, true, false, cond, not, ◌&&◌, ◌||◌, List, [], ◌∷◌, ◌++◌, length, get_or, is_some, Some, None, Option, ◌==◌, nat_le, nat_lt, slice_index_or, slice_set}
 use Rattle.std.specs.Option.{option_or}
 use Rattle.runs.specs.Replicas.{Comes, Said, Call', Beat, Does, Says, Gives, Whole', Code, how_many}
 use Rattle.agreement.specs.declared.View.{View}
@@ -11,7 +11,7 @@ use Rattle.agreement.specs.declared.Role.TheVariants.{Recovering, Follower, Cand
 use Rattle.agreement.specs.declared.Place.{Place}
 use Rattle.agreement.specs.declared.Joining.{Joining}
 use Rattle.agreement.specs.declared.Agreement.{Agreement}
-use Rattle.agreement.specs.Content.{Service, Content, Proposal, limit, rank, rank_id, id_of, seven, place_in, place_at, roster, fresh_place, first_view, first_id, first_content, called, joined}
+use Rattle.agreement.specs.Content.{Service, Content, Proposal, limit, rank, rank_id, id_of, seven, place_at, roster, fresh_place, first_view, first_id, first_content, called, joined}
 
 -- WHAT IS SAID
 -- a call of a replica: which incarnation asks, its number among that one's calls, the client's number, the call
@@ -308,11 +308,8 @@ abbrev pub join_at : {sv : Service} → Mind sv → (j : ℕ) → Option (Job sv
 join_at m j = join_job (accepted m) j (slice_index_or m.agreement.joins j None)
 
 -- a leader's own call is not queued, but waits
-abbrev pub is_self : {sv : Service} → Mind sv → ℕ → Bool
-is_self m j = j == m.agreement.me
-
 abbrev pub call_at : {sv : Service} → Mind sv → (j : ℕ) → Option (Job sv)
-call_at m j = call_job (accepted m) j (cond (is_self m j) (own_head m.waiting m) (slice_index_or m.calls j None))
+call_at m j = call_job (accepted m) j (cond (j == m.agreement.me) (own_head m.waiting m) (slice_index_or m.calls j None))
 
 abbrev pub first_of : {A : Type 0} {sv : Service} → (ℕ → Option A) → Mind sv → Option A
 first_of f m = first_from m.agreement.all m.agreement.all m.agreement.turn f
@@ -523,12 +520,8 @@ may_stand m = (m.agreement.patience == 0 && nat_lt 1 m.agreement.all) && nat_lt 
 abbrev pub own_view : Agreement → View
 own_view a = record { number = suc a.promised.number; leader = a.me; incarnation = a.incarnation }
 
--- its own promise, or one that it has
-abbrev pub has_promise : {sv : Service} → Mind sv → ℕ → Bool
-has_promise m j = j == m.agreement.me || counts m.agreement.votes m.agreement.places j
-
 abbrev pub ask_to : {sv : Service} → Mind sv → ℕ → List (Does (Msg sv) sv.R)
-ask_to m j = cond (has_promise m j) [] (Says j (Prepare m.agreement.promised) ∷ [])
+ask_to m j = cond (j == m.agreement.me || counts m.agreement.votes m.agreement.places j) [] (Says j (Prepare m.agreement.promised) ∷ [])
 
 -- a candidate asks each replica whose promise doesn't count
 unfoldable pub ask_all : {sv : Service} → Mind sv → Turn sv
@@ -538,11 +531,8 @@ abbrev pub stand : {sv : Service} → Mind sv → Turn sv
 stand m = then_do (still (anew (without_jobs (standing (own_view m.agreement) m)))) ask_all
 
 -- what is under way is said again: by a leader to all; by a candidate to those whose promise it does not have
-abbrev pub repeats : {sv : Service} → Mind sv → Bool
-repeats m = is_leader m.agreement.role
-
 unfoldable pub say_again : {sv : Service} → Mind sv → Turn sv
-say_again m = cond (repeats m) (tell_all m) (cond (is_candidate m.agreement.role) (ask_all m) (still m))
+say_again m = cond (is_leader m.agreement.role) (tell_all m) (cond (is_candidate m.agreement.role) (ask_all m) (still m))
 
 -- a leader that has something to do does that; else it says again what is under way
 abbrev pub has_job : {sv : Service} → Mind sv → Bool

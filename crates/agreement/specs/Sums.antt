@@ -1,5 +1,5 @@
 -- A small service: numbers are added up. At it the theorems are stated, which hold for every service.
-use Rattle.std.specs.Prelude.{◌≡◌, ℕ, suc, ◌+◌, true, cond, Some, None, Option, ◌==◌}
+use Rattle.std.specs.Prelude.{ℕ, ◌+◌, true, cond, Some, None, ◌==◌}
 use Rattle.agreement.specs.Content.{Service}
 
 -- 0 only asks for the sum; 1 is no call, and is refused whatever the sum is, by 1; the others are added, and answered by 2 more than the sum. 0 is busy

@@ -1,11 +1,10 @@
 -- A TABLE OF SHORT RUNS: each row is a run, mostly of three replicas, with what clients see (newest first) and what is so in the end.
-use Rattle.std.specs.Prelude.{◌≡◌, ℕ, Bool, true, false, List, [], ◌∷◌, length}
+use Rattle.std.specs.Prelude.{◌≡◌, ℕ, true, false, List, [], ◌∷◌, length}
 use mathlib.Core.List.{Memᴰ}
-use Rattle.runs.specs.Replicas.{Letter, Scene, Seen, asked, gave, Said, Goes, there}
-use Rattle.agreement.specs.declared.Joining.{Joining}
+use Rattle.runs.specs.Replicas.{Scene, Seen, asked, gave, Said, Goes, there}
 use Rattle.agreement.specs.declared.Role.TheVariants.{Follower, Leader}
 use Rattle.agreement.specs.Content.{roster}
-use Rattle.agreement.specs.Machine.{Msg, Join, Mind, accepted, Turn, still, turn, code}
+use Rattle.agreement.specs.Machine.{Msg, Join, Mind, accepted, still, turn, code}
 use Rattle.agreement.specs.Sums.{sums}
 
 -- there is a run of so many replicas in which clients see es, and in the end P

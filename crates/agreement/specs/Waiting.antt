@@ -1,5 +1,5 @@
 -- What clients see: which calls are answered, how often and when; that clients can't tell the replicas from one clerk; and which replicas are whole.
-use Rattle.std.specs.Prelude.{◌≡◌, ℕ, ◌+◌, ◌<◌, ◌≤◌, Bool, true, false, cond, List, [], ◌∷◌, ◌==◌}
+use Rattle.std.specs.Prelude.{◌≡◌, ℕ, ◌+◌, ◌≤◌, true, false, cond, List, [], ◌∷◌, ◌==◌}
 use Rattle.runs.specs.Replicas.{Scene, Seen, asked, gave, Goes, there}
 use Rattle.runs.specs.Room.{LikeARoom, OnlyWaiting, BusyAtNine}
 use Rattle.agreement.specs.Content.{Service}

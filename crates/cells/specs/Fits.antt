@@ -18,18 +18,18 @@ pub record Below (limit : ℕ) (s : State) : Type 0 where
   pub top : s.top ≤ limit
   pub entries : All (CountsTo limit) s.entries
 
--- A state that fits a room. A call has at most 64 acts, and each raises a count by one at most: so counts are at most 64 times the changes, and none wraps before 2^57 changes.
+-- A state that fits a room. A call has at most 64 acts, and each raises a count by one at most: so counts are at most 64 times the changes, and none wraps before 2^56 changes.
 pub record Fits (room : ℕ) (s : State) : Type 0 where
   pub weighs : weight_of s.entries ≤ room
   pub few : length s.sessions ≤ 4096
   pub rises : rising 0 s.sessions s.last_session ≡ true
   pub opened : s.last_session ≤ s.changes
-  pub early : s.changes ≤ 144115188075855872
+  pub early : s.changes ≤ 72057594037927936
   pub counts : Below (64 * s.changes) s
 
 -- there may be another change
 abbrev pub Calm : State → Type 0
-Calm s = s.changes < 144115188075855872
+Calm s = s.changes < 72057594037927936
 
 -- lent memory that is long enough for every state that fits a room
 pub record Suits (room : ℕ) (out places : List ℕ) : Type 0 where

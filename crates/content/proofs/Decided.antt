@@ -80,7 +80,7 @@ fit_decides : (room : ℕ) (s : State) → Decides (does_fit room s) (Fits room 
 unfolding does_fit
 fit_decides room s =
     let all = Decides-and _ _ (leb_decides (weight_of s.entries) room) (Decides-and _ _ (leb_decides (length s.sessions) 4096) (Decides-and _ _ (λ e. e, λ e. e) (Decides-and _ _ (leb_decides s.last_session s.changes)
-    (Decides-and _ _ (leb_decides s.changes 144115188075855872) (Decides-and _ _ (leb_decides s.top (64 * s.changes)) (every_decides (counts_fit (64 * s.changes)) (CountsTo (64 * s.changes)) (counts_decides (64 * s.changes)) s.entries)))))) in
+    (Decides-and _ _ (leb_decides s.changes 72057594037927936) (Decides-and _ _ (leb_decides s.top (64 * s.changes)) (every_decides (counts_fit (64 * s.changes)) (CountsTo (64 * s.changes)) (counts_decides (64 * s.changes)) s.entries)))))) in
     Decides-like (does_fit room s)
     (λ h. record {
       weighs = h.0;

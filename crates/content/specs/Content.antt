@@ -21,7 +21,7 @@ counts_fit limit e = nat_le e.version limit && nat_le e.kids limit
 -- a state fits a room
 unfoldable pub does_fit : ℕ → State → Bool
 does_fit room s =
-    nat_le (weight_of s.entries) room && (nat_le (length s.sessions) 4096 && (rising 0 s.sessions s.last_session && (nat_le s.last_session s.changes && (nat_le s.changes 144115188075855872 &&
+    nat_le (weight_of s.entries) room && (nat_le (length s.sessions) 4096 && (rising 0 s.sessions s.last_session && (nat_le s.last_session s.changes && (nat_le s.changes 72057594037927936 &&
     (nat_le s.top (64 * s.changes) && every (counts_fit (64 * s.changes)) s.entries)))))
 
 -- BYTES ARE A TREE THAT FITS A ROOM

@@ -55,12 +55,12 @@ pub fn do_act(
     }
 }
 
-// May there be another change: there were fewer than 2^57.
+// May there be another change: there were fewer than 2^56.
 pub fn is_calm(tree: Tree) -> bool
     requires { Holds tree.bytes.now tree.places.now }
-    ensures { result ≡ nat_lt (state_of tree.entry.bytes.now tree.entry.places.now).changes 144115188075855872 }
+    ensures { result ≡ nat_lt (state_of tree.entry.bytes.now tree.entry.places.now).changes 72057594037927936 }
 {
-    changes_of(tree).0 < 144115188075855872
+    changes_of(tree).0 < 72057594037927936
 }
 
 // A call of one act: the answer, and the tree that it leaves.

@@ -3,7 +3,7 @@ use Rattle.std.proofs.Common.{◌≡◌, ℕ, zero, suc, ◌+◌, ◌*◌, ◌<�
 use mathlib.Core.List.Memᴰ
 use mathlib.Core.List.{Memᴰ}
 use Rattle.runs.specs.Replicas.{Comes, Said, Call', Beat, Does, Says, Gives, Whole', Code, Letter, House, gone, there, Waits, Scene, Seen, asked, gave, at, posted, given, whole, answered_off, left_by, was_asked, how_many, turned, with_call, New, woken, fallen, Goes, first, hears, is_asked, beats, falls, wakes}
-use Rattle.runs.specs.Carrying.{Writing, written, written_turn, hears_written, turns_written, over_writing, ReadsAgain}
+use Rattle.runs.specs.Carrying.{Writing, written, written_turn, hears_written, turns_written, over_writing, ReadsAgainOfSeven}
 
 module _ {M N : Type 0} (f : M → N) where
   abbrev pub sent_letter : Letter M → Letter N
@@ -106,7 +106,7 @@ pub record Carried {M O R N : Type 0} (c : Code M O R) (e : Writing c N) (all n 
   pub is : t ≡ sent c e scene
   pub goes : Goes c all n es scene
 
-module _ {M O R N : Type 0} (c : Code M O R) (e : Writing c N) (again : ReadsAgain c e) (all : ℕ) (few : all ≤ 7) where
+module _ {M O R N : Type 0} (c : Code M O R) (e : Writing c N) (again : ReadsAgainOfSeven c e) (all : ℕ) (few : all ≤ 7) where
   pub carry : (n : ℕ) (es : List (Seen O R)) (t : Scene c.Mind N) → Goes (over_writing c e) all n es t → Carried c e all n es t
   carry _ _ _ first = record { scene = _; is = refl; goes = first }
   carry _ _ _ (hears {n = n} {es = es} {s = t} i m l lt g h mem to) = hear (carry n es t g)

@@ -4,8 +4,8 @@ use mathlib.Core.List.Memᴰ
 use mathlib.Core.List.{Memᴰ}
 use Rattle.runs.specs.Replicas.{Comes, Said, Call', Beat, Does, Says, Gives, Whole', Code, Letter, House, gone, there, Waits, Scene, Seen, given, turned, New, woken, is_in, count_of, how_many, Goes, hears, beats, wakes}
 use Rattle.runs.specs.Room.{Clerk, LikeARoom, BusyAtNine, OnlyWaiting}
-use Rattle.runs.specs.Progress.{Among, stay, talk, beat, wake, Enough, AnswersAndHeals}
-use Rattle.runs.specs.Carrying.{Writing, written, hears_written, turns_written, over_writing, ReadsAgain}
+use Rattle.runs.specs.Progress.{Among, stay, talk, beat, wake, Enough, AnswersAndHealsWithin}
+use Rattle.runs.specs.Carrying.{Writing, written, hears_written, turns_written, over_writing, ReadsAgainOfSeven}
 use Rattle.runs.proofs.Carrying.{sent_letter, sent, gives_written, map_append, mapped_member, said_again, beat_again, scene_again, seen_again, Carried, carry}
 
 -- what a group does is part of a run
@@ -23,7 +23,7 @@ among_goes c all group n es s g _ _ (wake {es = fs} {t = t} i x lt gi new a h) =
     let r = among_goes c all group n es s g fs t a in
     (suc r.0, wakes i x lt new r.1 h)
 
-module _ {M O R N : Type 0} (c : Code M O R) (e : Writing c N) (again : ReadsAgain c e) where
+module _ {M O R N : Type 0} (c : Code M O R) (e : Writing c N) (again : ReadsAgainOfSeven c e) where
   pub room_kept : (k : Clerk O R) → LikeARoom k c → LikeARoom k (over_writing c e)
   room_kept k like all n some seven few es t g = let r = carry c e again all seven n es t g in like all n some seven few es r.scene r.goes
 
@@ -84,8 +84,8 @@ module _ {M O R N : Type 0} (c : Code M O R) (e : Writing c N) (again : ReadsAga
         (beat i m lt gi (among_sent fs t a) h)
     among_sent _ _ (wake {es = fs} {t = t} i x lt gi new a h) = wake i x lt gi new (among_sent fs t a) h
 
-  pub heals_kept : AnswersAndHeals c → AnswersAndHeals (over_writing c e)
-  heals_kept heals all n some seven few es t g group enough =
+  pub heals_kept : (most : ℕ) → AnswersAndHealsWithin most c → AnswersAndHealsWithin most (over_writing c e)
+  heals_kept most heals all n some seven few es t g group enough =
       let r = carry c e again all seven n es t g in
       let s = r.scene in
       let a = heals all n some seven few es s r.goes group (subst (λ (z : Scene c.Mind N). Enough all group z) r.is enough) in (

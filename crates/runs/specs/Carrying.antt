@@ -31,7 +31,12 @@ turns_written c e Beat m = written_turn c e.write Beat m
 abbrev pub over_writing : {M O R N : Type 0} → (c : Code M O R) → Writing c N → Code N O R
 over_writing c e = record { Mind = c.Mind; wakes = c.wakes; turns = turns_written c e }
 
--- whatever was said in a run of at most seven replicas is read again, by whoever is up, as what was said
+-- whatever was said in a run is read again, by whoever is up, as what was said
 abbrev pub ReadsAgain : {M O R N : Type 0} → (c : Code M O R) → Writing c N → Type 0
 ReadsAgain {M} {O} {R} c e =
+    (all n : ℕ) (es : List (Seen O R)) (s : Scene c.Mind M) → Goes c all n es s → (i : ℕ) (m : c.Mind) → s.house i ≡ there m → (l : Letter M) → Memᴰ l s.letters → e.read m (e.write l.word) ≡ Some l.word
+
+-- the same of runs of at most seven replicas, by one of them
+abbrev pub ReadsAgainOfSeven : {M O R N : Type 0} → (c : Code M O R) → Writing c N → Type 0
+ReadsAgainOfSeven {M} {O} {R} c e =
     (all n : ℕ) → all ≤ 7 → (es : List (Seen O R)) (s : Scene c.Mind M) → Goes c all n es s → (i : ℕ) (m : c.Mind) → i < all → s.house i ≡ there m → (l : Letter M) → Memᴰ l s.letters → e.read m (e.write l.word) ≡ Some l.word

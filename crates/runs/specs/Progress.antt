@@ -23,3 +23,10 @@ AnswersAndHeals {M} {O} {R} c =
     (all n : ℕ) → 1 ≤ all → all ≤ 7 → n < 72057594037927936 → (es : List (Seen O R)) (s : Scene c.Mind M) → Goes c all n es s → (group : List ℕ) → Enough all group s →
     (fs : List (Seen O R)) × (t : Scene c.Mind M) × Among c all group s fs t × ((a : Waits) → Memᴰ a s.waits → Memᴰ a.house group → (r : R) × Memᴰ (gave a.house a.number r) fs) ×
     ((i : ℕ) → i < all → Memᴰ i group → t.frail i ≡ false)
+
+-- The same from every scene that a run of fewer than `most` steps reaches
+abbrev pub AnswersAndHealsWithin : {M O R : Type 0} → (most : ℕ) → Code M O R → Type 0
+AnswersAndHealsWithin {M} {O} {R} most c =
+    (all n : ℕ) → 1 ≤ all → all ≤ 7 → n < most → (es : List (Seen O R)) (s : Scene c.Mind M) → Goes c all n es s → (group : List ℕ) → Enough all group s →
+    (fs : List (Seen O R)) × (t : Scene c.Mind M) × Among c all group s fs t × ((a : Waits) → Memᴰ a s.waits → Memᴰ a.house group → (r : R) × Memᴰ (gave a.house a.number r) fs) ×
+    ((i : ℕ) → i < all → Memᴰ i group → t.frail i ≡ false)

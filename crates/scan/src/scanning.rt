@@ -116,7 +116,7 @@ pub fn fits_room(tree: Tree, room: u64) -> bool
     ensures { Decides result (Fits room (state_of tree.entry.bytes.now tree.entry.places.now)) }
 {
     let changes = changes_of(tree).0;
-    if changes > 144115188075855872 {
+    if changes > 72057594037927936 {
         return false;
     }
     if session_count(tree) > 4096 {

@@ -87,7 +87,7 @@ say_to (LetIn c) outcome.Done = Done (done_by c)
 
 -- one more call may be done: no count of the tree is near the end of 64 bits
 abbrev pub is_calm : State → Bool
-is_calm s = nat_lt s.changes 144115188075855872
+is_calm s = nat_lt s.changes 72057594037927936
 
 -- THE SERVICE over calls as bytes, with answers as bytes: this is what the programs do
 abbrev pub lines : ℕ → Service

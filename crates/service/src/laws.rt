@@ -3,9 +3,7 @@ ghost use Rattle.std.specs.Prelude.{ℕ};
 ghost use Rattle.agreement.specs.Content.{Lawful};
 ghost use Rattle.service.specs.Service.{lines, calls};
 ghost use Rattle.service.specs.Users.{OneAfterTheOther, NeverBack, OneMaker};
-ghost use Rattle.promise.specs.Promise.{CoreWhole};
-ghost use Rattle.agreement.specs.Machine.{code};
-ghost use Rattle.service.specs.Safe.{Safe, SafeLines, Heals, OverBytes};
+ghost use Rattle.service.specs.Safe.{Safe, SafeLines, Heals, OverBytes, WholeWithin, WholeOverBytes};
 
 // The tree, asked by calls as bytes, is a service that replicas can keep.
 pub fn lines_are_lawful() -> u8
@@ -38,14 +36,21 @@ pub fn tree_answers_and_heals() -> u8
 
 // The whole promise, of the machine that keeps the tree, for the calls that are built.
 pub fn tree_is_whole() -> u8
-    ensures { (room : ℕ) → CoreWhole room (code (calls room)) }
+    ensures { (room : ℕ) → WholeWithin room }
 {
     0
 }
 
-// The same over messages as bytes, in whatever way they are written that is read again.
-pub fn whole_over_bytes() -> u8
+// Safety over messages as bytes, in whatever way they are written that is read again; progress carries over.
+pub fn safe_over_bytes() -> u8
     ensures { (room : ℕ) → OverBytes room }
+{
+    0
+}
+
+// The whole promise over messages as bytes, in whatever way they are written that is read again.
+pub fn whole_over_bytes() -> u8
+    ensures { (room : ℕ) → WholeOverBytes room }
 {
     0
 }

@@ -4,7 +4,7 @@ use Rattle.std.proofs.lemmas.Bool.{cond_both}
 use Rattle.runs.specs.Replicas.{Does, Says}
 use Rattle.runs.proofs.Carrying.{map_append}
 use Rattle.agreement.specs.Machine as Machine
-use Rattle.agreement.specs.Machine.{Msg, Mind, accepted, then_do, still, says, to_each, alive_to, word_to, tell, tell_all, tell_done, has_promise, ask_to, ask_all}
+use Rattle.agreement.specs.Machine.{Msg, Mind, accepted, then_do, still, says, to_each, alive_to, word_to, tell, tell_all, tell_done, counts, ask_to, ask_all}
 use Rattle.service.specs.Service.{lines}
 use Rattle.outbox.specs.declared.Word.{Word}
 use Rattle.outbox.specs.declared.Word.TheVariants as word
@@ -50,7 +50,7 @@ module _ (room : ℕ) (h : House) (m : Memory) where
 
   -- what a candidate says to the replica j
   pub ask_done : (j : ℕ) → dids (askBy h.agreement j) ≡ ask_to (mind_of room h m) j
-  ask_done j = pick dids (has_promise (mind_of room h m) j) [] (deed.Say j (word.Prepare h.agreement.promised) ∷ [])
+  ask_done j = pick dids (eqb j h.agreement.me || counts h.agreement.votes h.agreement.places j) [] (deed.Say j (word.Prepare h.agreement.promised) ∷ [])
 
   pub tell_all_done : dids (tellAllBy h.agreement) ≡ (tell_all (mind_of room h m)).does
   unfolding tell_all

@@ -17,7 +17,7 @@ use Rattle.wire.proofs.TreesAgain.{sessions_small}
 
 -- a state whose entries are tidy, and stay so by one act more
 record Orderly (s : State) : Type 0 where
-  early : s.changes < 144115188075855872
+  early : s.changes < 72057594037927936
   sessions : All (λ x. x < 18446744073709551616) s.sessions
   entries : All TidyEntry s.entries
 
@@ -129,4 +129,4 @@ next_of room NoCall s calm h = h
 next_of room (LetIn c) s calm h = call_sendable room c s calm h
 
 pub next_sendable : NextSendable
-next_sendable room call s calm h = next_of room (screened call) s (ltb-true s.changes 144115188075855872 calm) h
+next_sendable room call s calm h = next_of room (screened call) s (ltb-true s.changes 72057594037927936 calm) h

@@ -12,7 +12,7 @@ use Rattle.agreement.proofs.Bounds.{bounded}
 use Rattle.service.specs.Service.{lines}
 use Rattle.wire.specs.Trees.{Sendable}
 use Rattle.wire.specs.Messages.{word_bytes, word_at}
-use Rattle.service.proofs.Over.{over_bytes}
+use Rattle.service.proofs.Over.{whole_over_bytes}
 use Rattle.wire.specs.Laws.{CarriesSendable}
 use Rattle.wire.specs.Whole.{format, SaidIsRead, WholeInBytes}
 use Rattle.wire.proofs.MessagesAgain.{message_again}
@@ -37,4 +37,4 @@ said_is_read room all n few es s g i m lt up l d =
     subst (λ (z : ℕ). word_at room z (word_bytes room l.word) ≡ Some l.word) (sym k) (message_again room all l.word (said_fits (lines room) all n few es s g l d) (carried room n l.word ((bounded (sending room) all g).letters l d)))
 
 pub whole_in_bytes : WholeInBytes
-whole_in_bytes room = over_bytes room (format room) (said_is_read room)
+whole_in_bytes room = whole_over_bytes room (format room) (said_is_read room)

@@ -3,10 +3,11 @@
 use Rattle.std.specs.Prelude.{ℕ, List}
 use Rattle.runs.specs.Replicas.{Code}
 use Rattle.runs.specs.Room.{LikeARoom, BusyAtNine, OnlyWaiting}
-use Rattle.runs.specs.Progress.{AnswersAndHeals}
-use Rattle.runs.specs.Carrying.{Writing, over_writing, ReadsAgain}
+use Rattle.runs.specs.Progress.{AnswersAndHealsWithin}
+use Rattle.runs.specs.Carrying.{Writing, over_writing, ReadsAgainOfSeven}
 use Rattle.agreement.specs.Machine.{code}
 use Rattle.service.specs.Service.{lines}
+use Rattle.service.specs.Safe.{longest}
 use Rattle.wire.specs.Messages.{word_bytes, word_at}
 
 -- how messages are written, and read by a replica that knows how many there are
@@ -18,7 +19,7 @@ abbrev pub bytes_code : (room : ℕ) → Code (List ℕ) (List ℕ) (List ℕ)
 bytes_code room = over_writing (code (lines room)) (format room)
 
 abbrev pub SaidIsRead : Type 0
-SaidIsRead = (room : ℕ) → ReadsAgain (code (lines room)) (format room)
+SaidIsRead = (room : ℕ) → ReadsAgainOfSeven (code (lines room)) (format room)
 
 abbrev pub WholeInBytes : Type 0
-WholeInBytes = (room : ℕ) → LikeARoom (lines room).clerk (bytes_code room) × BusyAtNine (lines room).clerk (bytes_code room) × OnlyWaiting (bytes_code room) × AnswersAndHeals (bytes_code room)
+WholeInBytes = (room : ℕ) → LikeARoom (lines room).clerk (bytes_code room) × BusyAtNine (lines room).clerk (bytes_code room) × OnlyWaiting (bytes_code room) × AnswersAndHealsWithin longest (bytes_code room)

@@ -7,6 +7,7 @@ use Rattle.service.proofs.Steadiness.{calls_steady}
 use Rattle.service.proofs.laws.tree_is_whole.Goals as goal
 
 pub returns : goal.returns
+unfolding calls_steady
 returns c room =
     let sv = calls room in
     let law = calls_lawful room in
