@@ -1,5 +1,6 @@
 // Calls and answers as bytes: readers that hand on paths, names and values as parts of the bytes.
 pub mod answers;
+pub mod laws;
 pub mod reading;
 pub mod screening;
 pub mod types;

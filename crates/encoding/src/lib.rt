@@ -10,9 +10,9 @@ ghost use Rattle.words.specs.Values.{name_of, path_of, act_of, call_of};
 ghost use Rattle.model.specs.Tree.{every};
 ghost use Rattle.encoding.specs.Fits.{name_fits, path_fits, value_fits, act_fits, call_fits, Encoded};
 
-use lent_bytes::counts::Session;
 use calls::types::Expected;
 use lengths::call_fits;
+use lent_bytes::counts::Session;
 use std::alloc::AllocError;
 use words::types::{Act, Call, Fault, Name, Path, Wrong};
 
@@ -163,7 +163,8 @@ fn push_fitting(out: &mut Vec<u8>, call: &Call) -> Result<(), AllocError>
 
 // Writes the call's bytes behind what is there; a call with more acts or names, or with longer ones, than their lengths can say is refused, and nothing is written.
 pub fn push_call(out: &mut Vec<u8>, call: &Call) -> Result<(), Fault>
-    ensures { Encoded (call_of call.now) out.old.items out.new.items result }
+    ensures encoded { Encoded (call_of call.now) out.old.items out.new.items result }
+    ensures written { OnOk result (out.new.items ≡ out.old.items ++ encode_call (call_of call.now)) }
 {
     if !call_fits(call) {
         return Err(Fault::Wrong(Wrong::Long));

@@ -8,7 +8,7 @@ use Rattle.lent_bytes.proofs.Rounds.{length_be4, length_be8}
 use Rattle.lent_bytes.specs.Numbers.{be4, be8}
 use Rattle.calls.specs.Format.{encode_call, decode_call, act_written, many_written, path_written, value_written, expect_written, flag_written}
 use Rattle.calls.specs.Screening.{Screen, NotBuilt, NoCall, LetIn, decoded, screened, front_not_built}
-use Rattle.rounds.proofs.WrittenAgain.{calls_back}
+use Rattle.calls.proofs.WrittenAgain.{calls_back}
 use Rattle.service.specs.Service.{at_once, in_range, act_in_range}
 use Rattle.memory.specs.Range.{WaitingIsShort}
 

@@ -1,6 +1,6 @@
 -- How long a call is that can wait: one that is not answered at once. Assumes nothing.
 use Rattle.std.specs.Prelude.{◌≡◌, ℕ, ◌≤◌, List, length, None}
-use Rattle.rounds.specs.Laws.{Bytes}
+use Rattle.calls.specs.Laws.{Bytes}
 use Rattle.calls.specs.Screening.{screened}
 use Rattle.service.specs.Service.{at_once}
 

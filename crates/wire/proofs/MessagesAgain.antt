@@ -3,7 +3,7 @@ use Rattle.std.proofs.Common.{◌≡◌, ℕ, zero, suc, ◌+◌, ◌<◌, Bool,
 use Rattle.std.proofs.lemmas.Bool.{lt-ltb}
 use Rattle.lent_bytes.specs.Numbers.{be8}
 use Rattle.calls.specs.Format.{and_then, byte_at, number_at, flag_at, flag_written, wholly}
-use Rattle.rounds.proofs.Again.{number_again, flag_again, onward, wholly_again}
+use Rattle.calls.proofs.Again.{number_again, flag_again, onward, wholly_again}
 use Rattle.tree.specs.declared.refusal.Refusal.TheVariants.{OutOfRange, NotThere, AlreadyThere, OtherVersion, HasKids, NoSession, UnderSession, UsedUp, Full}
 use Rattle.content.specs.Content.{tree_at}
 use Rattle.service.specs.declared.outcome.Outcome.{Outcome}

@@ -4,9 +4,9 @@ use Rattle.std.proofs.lemmas.Bool.{eqb-true}
 use Rattle.model.specs.Tree.{State}
 use Rattle.lent_bytes.specs.Numbers.{be8}
 use Rattle.calls.specs.Format.{and_then, byte_at, number_at, flag_at, flag_written, wholly}
-use Rattle.rounds.specs.Laws.{Bytes}
+use Rattle.calls.specs.Laws.{Bytes}
 use Rattle.calls.proofs.Back.{some_parts, then_some, byte_back}
-use Rattle.rounds.proofs.WrittenAgain.{behind, number_back, flag_back, whole_back, cond_some, nothing}
+use Rattle.calls.proofs.WrittenAgain.{behind, number_back, flag_back, whole_back, cond_some, nothing}
 use Rattle.tree.specs.declared.refusal.Refusal.{Refusal}
 use Rattle.tree.specs.declared.refusal.Refusal.TheVariants.{OutOfRange, NotThere, AlreadyThere, OtherVersion, HasKids, NoSession, UnderSession, UsedUp, Full}
 use Rattle.tree.specs.Answers.{reason}

@@ -2,7 +2,7 @@
 use Rattle.std.proofs.Common.{◌≡◌, ℕ, List, ◌∷◌, ◌++◌, Some, sym, refl, ap}
 use Rattle.lent_bytes.specs.Numbers.{be8}
 use Rattle.calls.specs.Format.{flag_written}
-use Rattle.rounds.specs.Laws.{Bytes}
+use Rattle.calls.specs.Laws.{Bytes}
 use Rattle.calls.proofs.Back.{then_some}
 use Rattle.content.specs.Content.{tree_at}
 use Rattle.service.specs.Service.{lines}

@@ -8,8 +8,8 @@ use Rattle.lent_bytes.specs.Numbers.{be32, be64, be4, be8}
 use Rattle.lent_bytes.specs.Paths.{path_bytes, path_of}
 use Rattle.lent_bytes.proofs.Places.{be32_take, be64_take, be32_drop, be64_drop}
 use Rattle.calls.specs.Format.{many_written}
-use Rattle.rounds.specs.Laws.{Bytes}
-use Rattle.rounds.proofs.WrittenAgain.{four, eight}
+use Rattle.calls.specs.Laws.{Bytes}
+use Rattle.calls.proofs.WrittenAgain.{four, eight}
 use Rattle.cells.specs.Layout.{begins_at, cut, last_of, head_of, head_bytes, cell_bytes, path_part, entry_of, entries_of, prelude_of, state_from, numbers_at, sessions_in, Formed}
 use Rattle.cells.proofs.Preludes.{length_numbers, prelude_long}
 use Rattle.scan.specs.Scans.{places_of}

@@ -4,7 +4,7 @@ use Rattle.std.specs.Prelude.{◌≡◌, ℕ, true, List, Some}
 use Rattle.model.specs.Tree.{State}
 use Rattle.scan.specs.Scans.{IsTree, meaning}
 use Rattle.content.specs.Content.{tree_at}
-use Rattle.rounds.specs.Laws.{Bytes}
+use Rattle.calls.specs.Laws.{Bytes}
 use Rattle.service.specs.Service.{lines}
 use Rattle.agreement.specs.Machine.{Msg, Prepare, Promise, Propose, Alive, Accepted, Join, Forward}
 use Rattle.agreement.specs.Said.{FitWord}

@@ -1,6 +1,6 @@
 // Reading undoes writing, and writing undoes reading, of calls and of answers; and worked cases of what is told of bytes: the theorems, each named by a contract.
-ghost use Rattle.rounds.specs.Laws.{CallsAreReadAgain, CallsAreWrittenAgain, RepliesAreReadAgain, RepliesAreWrittenAgain};
-ghost use Rattle.rounds.specs.Cases.{WorkedScreens};
+ghost use Rattle.calls.specs.Laws.{CallsAreReadAgain, CallsAreWrittenAgain, RepliesAreReadAgain, RepliesAreWrittenAgain};
+ghost use Rattle.calls.specs.Cases.{WorkedScreens};
 
 // A call that is written is read again as that call; bytes that are read as a call are those that it is written as.
 pub fn calls_round() -> u8

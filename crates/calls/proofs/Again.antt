@@ -7,7 +7,7 @@ use Rattle.lent_bytes.specs.Numbers.{be4, be8, be32, be64}
 use Rattle.lent_bytes.specs.Paths.{name_bytes, path_bytes}
 use Rattle.lent_bytes.proofs.Rounds.{read_be4, read_be8, length_be4, length_be8}
 use Rattle.calls.specs.Format.{and_then, byte_at, part_at, length_at, number_at, name_at, names_at, many_at, many_written, path_at, path_written, value_at, value_written, flag_at, flag_written, expect_at, expect_written, make_at, put_at, drop_act_at, check_at, act_at, acts_at, act_written, wholly, encode_call, encode_reply}
-use Rattle.rounds.specs.Laws.{small, short, fits_expect, fits_act, fits_call, fits_reply, CallsAreReadAgain, RepliesAreReadAgain}
+use Rattle.calls.specs.Laws.{small, short, fits_expect, fits_act, fits_call, fits_reply, CallsAreReadAgain, RepliesAreReadAgain}
 use Rattle.calls.proofs.Back.{path_many}
 
 pub part_again : (p ys : List ℕ) (n : ℕ) → length p ≡ n → part_at n (p ++ ys) ≡ Some (p, ys)
