@@ -1,5 +1,5 @@
 // Measures put, make, look and scan of a tree in lent memory against a plain copy of the same bytes.
-//   rt staticlib exported && cc -O2 bench/tree.c target/staticlib/libexported.a -o target/tree_bench && target/tree_bench
+//   mkdir -p target && (cd crates/exported && rt lib) && cc -O2 bench/tree.c crates/exported/out/libexported.a -o target/tree_bench && target/tree_bench
 #include <stdint.h>
 #include <stdio.h>
 #include <stdlib.h>

@@ -1,7 +1,7 @@
 -- What a call of several acts answers, by what they came to. Assumes nothing.
-use Rattle.std.proofs.Common.{◌≡◌, ℕ, ◌+◌, ◌≤◌, Bool, true, false, cond, ◌||◌, ltb, List, [], ◌∷◌, length, IfOk, Ok, Err, Result, sym, refl, ap, ◌∙◌, subst}
+use Rattle.std.proofs.Common.{◌≡◌, ℕ, Bool, true, false, ◌||◌, ltb, List, [], length, IfOk, Ok, Err, Result, sym, ap, ◌∙◌, subst}
 use Rattle.std.proofs.lemmas.Bool.{cond-true, cond-false}
-use Rattle.model.specs.Tree.{Path, State, Act, Out, No, Done, Do, Going, Fine, all_of, closed, does, onward, values_in}
+use Rattle.model.specs.Tree.{State, Act, Out, No, Done, Do, Fine, all_of, closed, does, onward, values_in}
 use Rattle.calls.specs.Format.{many_at}
 use Rattle.calls.specs.Reading.{acts_in}
 use Rattle.cells.specs.Layout.{state_of}

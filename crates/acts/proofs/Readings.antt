@@ -1,5 +1,5 @@
 -- Acts that are read one behind the other: what a loop over them keeps. Assumes nothing.
-use Rattle.std.proofs.Common.{◌≡◌, ℕ, zero, suc, ◌+◌, ◌-◌, ◌<◌, ◌≤◌, List, [], ◌∷◌, ◌++◌, length, Some, None, Option, sym, refl, ap, ◌∙◌, subst, arith}
+use Rattle.std.proofs.Common.{◌≡◌, ℕ, zero, suc, ◌+◌, ◌<◌, ◌≤◌, List, [], ◌∷◌, length, Some, None, Option, sym, refl, ap, ◌∙◌, subst, arith}
 use Rattle.model.specs.Tree.{Act, Make, Put, Drop, Check, values_in}
 use Rattle.calls.specs.Format.{and_then, act_at, acts_at, many_at}
 use Rattle.calls.specs.Reading.{acts_in, acts_or, past, rest}

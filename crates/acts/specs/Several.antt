@@ -1,6 +1,6 @@
 -- Where the tree stands while several acts are done, in two buffers in turn. Assumes nothing.
-use Rattle.std.specs.Prelude.{◌≡◌, ℕ, Bool, false, List, [], ◌∷◌, ◌++◌, length, Ok, Err, Result}
-use Rattle.model.specs.Tree.{Path, State, Step, Bad, Good, Act, Make, Put, Drop, Check, Out, No, Done, Going, Failed, Fine, all_of, onward}
+use Rattle.std.specs.Prelude.{◌≡◌, ℕ, false, List, [], ◌∷◌, ◌++◌, length, Ok, Err, Result}
+use Rattle.model.specs.Tree.{Path, State, Step, Bad, Good, Act, Make, Put, Drop, Check, Out, No, Done, Failed, Fine, all_of, onward}
 use Rattle.cells.specs.Layout.{Holds, state_of}
 use Rattle.cells.specs.Drafts.{drafting, Drafts}
 use Rattle.tree.specs.declared.refusal.Refusal.{Refusal}

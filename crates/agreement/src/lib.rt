@@ -1,4 +1,6 @@
 // Agreement between replicas without disks: the state that agreement rests on, by value; and the theorems about the machine in specs/, each named by the contract of a small function.
+#![tactic(auto)]
+
 ghost use Rattle.agreement.specs.Quorum.{QuorumsMeet};
 ghost use Rattle.agreement.specs.Log.{AllAgree};
 ghost use Rattle.agreement.specs.Agree.{OneLine, MemberIsNamed};

@@ -1,12 +1,12 @@
 -- What is written is read again, whatever follows it: each reader at what its writer wrote. Assumes nothing.
-use Rattle.std.proofs.Common.{◌≡◌, ℕ, zero, suc, ◌+◌, ◌<◌, ◌≤◌, Bool, true, false, cond, ◌&&◌, ltb, leb, List, [], ◌∷◌, ◌++◌, length, take, drop, Some, None, Option, sym, refl, ap, ◌∙◌, append_assoc, append-nil, arith, length-append}
+use Rattle.std.proofs.Common.{◌≡◌, ℕ, suc, ◌<◌, Bool, true, false, cond, ◌&&◌, leb, List, [], ◌∷◌, ◌++◌, length, take, drop, Some, None, Option, sym, refl, ap, ◌∙◌, append_assoc, append-nil, arith, length-append}
 use Rattle.std.proofs.lemmas.List.{take_at, drop_at}
 use Rattle.std.proofs.lemmas.Bool.{and_parts, ltb-true, le-leb}
-use Rattle.model.specs.Tree.{Name, Path, Expect, Any, Version, Act, Make, Put, Drop, Check, Call, Do, Look, Kids, Open, End, Reply, No, Done, Entry', Names, Session, every}
+use Rattle.model.specs.Tree.{Name, Path, Expect, Any, Version, Act, Make, Put, Drop, Check, Do, Look, Kids, Open, End, No, Done, Entry', Names, Session, every}
 use Rattle.lent_bytes.specs.Numbers.{be4, be8, be32, be64}
 use Rattle.lent_bytes.specs.Paths.{name_bytes, path_bytes}
 use Rattle.lent_bytes.proofs.Rounds.{read_be4, read_be8, length_be4, length_be8}
-use Rattle.calls.specs.Format.{and_then, byte_at, part_at, length_at, number_at, name_at, names_at, many_at, many_written, path_at, path_written, value_at, value_written, flag_at, flag_written, expect_at, expect_written, make_at, put_at, drop_act_at, check_at, act_at, acts_at, act_written, wholly, encode_call, encode_reply}
+use Rattle.calls.specs.Format.{and_then, part_at, length_at, number_at, name_at, names_at, many_at, many_written, path_at, path_written, value_at, value_written, flag_at, flag_written, expect_at, expect_written, make_at, put_at, drop_act_at, check_at, act_at, acts_at, act_written, wholly, encode_call, encode_reply}
 use Rattle.calls.specs.Laws.{small, short, fits_expect, fits_act, fits_call, fits_reply, CallsAreReadAgain, RepliesAreReadAgain}
 use Rattle.calls.proofs.Back.{path_many}
 

@@ -1,5 +1,5 @@
 -- Several things of one kind, read one behind the other: what a loop over them keeps. Assumes nothing.
-use Rattle.std.proofs.Common.{◌≡◌, ℕ, zero, suc, ◌+◌, ◌-◌, ◌<◌, List, [], ◌∷◌, Some, None, Option, sym, refl, ap, ◌∙◌, arith}
+use Rattle.std.proofs.Common.{◌≡◌, ℕ, suc, ◌+◌, ◌-◌, ◌<◌, List, ◌∷◌, Some, None, Option, refl, ap, ◌∙◌, arith}
 use Rattle.calls.specs.Format.{and_then, many_at}
 use Rattle.calls.specs.Reading.{past, rest}
 

@@ -1,5 +1,5 @@
 -- Which acts a call `do` of the core has: just one, that is no numbered making and none for a session. Assumes nothing.
-use Rattle.std.proofs.Common.{◌≡◌, ℕ, zero, suc, ◌+◌, Bool, true, false, cond, List, [], ◌∷◌, length, Some, None, Option, sym, refl, ap, ◌∙◌, arith}
+use Rattle.std.proofs.Common.{◌≡◌, ℕ, zero, suc, Bool, false, cond, List, [], ◌∷◌, length, Some, None, Option, sym, refl, ap, ◌∙◌, arith}
 use Rattle.model.specs.Tree.{Path, Act, Make, Put, Drop, Check, one, core}
 use Rattle.calls.specs.Format.{and_then, many_at, act_at, acts_at, decode_call}
 use Rattle.calls.specs.Reading.{past, rest, acts_or, acts_in, act_from, call_of}

@@ -1,10 +1,9 @@
 -- What bytes are read as is written as those bytes again, numbers included: whole calls and answers. Assumes nothing.
-use Rattle.std.proofs.Common.{◌≡◌, ℕ, zero, suc, ◌+◌, ◌*◌, ◌/◌, ◌%◌, ◌<◌, ◌≤◌, Bool, true, false, cond, ◌&&◌, eqb, ◌⊎◌, List, [], ◌∷◌, ◌++◌, length, get_or, take, drop, Some, None, Option, sym, refl, ap, ◌∙◌, subst, inl, inr, ⊎_elim, append_assoc, append-nil, arith, length-append}
-use Rattle.std.specs.List.{AllByRecursion as All}
+use Rattle.std.proofs.Common.{◌≡◌, ℕ, suc, ◌+◌, ◌*◌, ◌/◌, ◌%◌, Bool, true, false, cond, eqb, ◌⊎◌, List, [], ◌∷◌, ◌++◌, length, Some, None, Option, sym, refl, ap, ◌∙◌, subst, inl, inr, ⊎_elim, append_assoc, append-nil, arith}
 use Rattle.std.proofs.lemmas.Bool.{eqb-true}
-use Rattle.model.specs.Tree.{Name, Path, Expect, Any, Version, Act, Make, Put, Drop, Check, Call, Do, Look, Kids, Open, End, Reply, No, Done, Entry', Names, Session}
+use Rattle.model.specs.Tree.{Path, Expect, Any, Version, Act, Make, Put, Drop, Check, Call, Do, Look, Kids, Open, End, Reply, No, Done, Entry', Names, Session}
 use Rattle.lent_bytes.specs.Numbers.{be4, be8, be32, be64}
-use Rattle.lent_bytes.specs.Paths.{name_bytes, path_bytes}
+use Rattle.lent_bytes.specs.Paths.{path_bytes}
 use Rattle.calls.specs.Format.{and_then, byte_at, part_at, length_at, number_at, names_at, many_at, many_written, path_at, path_written, value_at, value_written, flag_at, flag_by, flag_written, expect_at, expect_by, expect_written, act_at, act_by, acts_at, act_written, make_at, put_at, expecting_at, drop_act_at, check_at, wholly, whole_path, do_at, end_at, call_by, encode_call, encode_reply, refused_at, done_at, owner_at, kids_at, changed_at, made_at, version_at, entry_at, names_in, session_at, reply_by}
 use Rattle.calls.specs.Laws.{Bytes, CallsAreWrittenAgain, RepliesAreWrittenAgain}
 use Rattle.calls.proofs.Again.{regroup}

@@ -3,7 +3,7 @@
 --   acts: 1 make: path, value, numbered (1), session (8);  2 put: path, value, expected;  3 drop: path, expected;  4 check: path, expected
 --   calls: 1 do: how many (1), acts;  2 look, 3 kids: path;  4 open;  5 end: session (8)
 --   answers: 0 refused: place (1), number (1);  1 done: how many (1), paths;  2 entry: value, version, made, changed, kids, session (8 each);  3 names: how many (4), names;  4 session (8)
-use Rattle.std.specs.Prelude.{ℕ, zero, suc, ◌+◌, Bool, true, false, cond, ◌&&◌, List, [], ◌∷◌, ◌++◌, length, take, drop, Some, None, Option, ◌==◌, nat_le}
+use Rattle.std.specs.Prelude.{ℕ, zero, suc, Bool, true, false, cond, List, [], ◌∷◌, ◌++◌, length, take, drop, Some, None, Option, ◌==◌, nat_le}
 use Rattle.model.specs.Tree.{Name, Path, Expect, Any, Version, Act, Make, Put, Drop, Check, Call, Do, Look, Kids, Open, End, Reply, No, Done, Entry', Names, Session}
 use Rattle.lent_bytes.specs.Numbers.{be4, be8, be32, be64}
 use Rattle.lent_bytes.specs.Paths.{path_bytes}

@@ -1,6 +1,6 @@
 -- Reading undoes writing, and writing undoes reading: so a call has one run of bytes, and a run of bytes at most one call; likewise answers. Each is a type; a proof of the type is the theorem.
 -- Assumes nothing.
-use Rattle.std.specs.Prelude.{◌≡◌, ℕ, ◌<◌, Bool, true, ◌&&◌, List, [], ◌∷◌, length, Some, nat_lt}
+use Rattle.std.specs.Prelude.{◌≡◌, ℕ, ◌<◌, Bool, true, ◌&&◌, List, length, Some, nat_lt}
 use Rattle.std.specs.List.{AllByRecursion as All}
 use Rattle.model.specs.Tree.{Expect, Any, Version, Act, Make, Put, Drop, Check, Call, Do, Look, Kids, Open, End, Reply, No, Done, Entry', Names, Session, every}
 use Rattle.calls.specs.Format.{encode_call, decode_call, encode_reply, decode_reply}

@@ -1,7 +1,6 @@
 -- What the parts that the readers hand on stand for. Assumes nothing.
-use Rattle.std.specs.Prelude.{◌≡◌, ℕ, Bool, List, [], Some, None, Option}
+use Rattle.std.specs.Prelude.{◌≡◌, ℕ, List, [], Some, None, Option}
 use Rattle.std.specs.Borrow.{Bor}
-use Rattle.std.specs.Option.{option_map}
 use Rattle.model.specs.Tree as Tree
 use Rattle.model.specs.Tree.{Path, Expect}
 use Rattle.lent_bytes.specs.declared.parts.Cut.{Cut}

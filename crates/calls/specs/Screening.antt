@@ -1,5 +1,5 @@
 -- Which bytes are let through to the tree. What isn't built yet is told first, by the front of the bytes alone where that tells it; then what is no call. Assumes nothing.
-use Rattle.std.specs.Prelude.{◌≡◌, ℕ, Bool, true, false, cond, not, ◌&&◌, ◌||◌, List, [], ◌∷◌, Some, None, Option, ◌==◌}
+use Rattle.std.specs.Prelude.{ℕ, Bool, true, false, cond, not, ◌&&◌, ◌||◌, List, [], ◌∷◌, Some, None, Option, ◌==◌}
 use Rattle.model.specs.Tree.{Call, core, one}
 use Rattle.calls.specs.Format.{decode_call}
 use Rattle.calls.specs.Reading.{call_of, CallSpells, acts_in}

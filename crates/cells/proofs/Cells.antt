@@ -1,5 +1,5 @@
 -- The cells that places cut out of memory, and the entries that they are. Assumes nothing.
-use Rattle.std.proofs.Common.{◌≡◌, ℕ, zero, suc, ◌+◌, ◌-◌, ◌<◌, ◌≤◌, Bool, true, false, ◌&&◌, List, [], ◌∷◌, ◌++◌, length, get_or, take, drop, Decides, sym, refl, ap, ◌∙◌, subst, add-one, arith}
+use Rattle.std.proofs.Common.{◌≡◌, ℕ, zero, suc, ◌+◌, ◌-◌, ◌<◌, Bool, List, [], ◌∷◌, length, get_or, Decides, refl, ◌∙◌, subst, add-one, arith}
 use Rattle.std.specs.List.{between}
 use Rattle.std.proofs.lemmas.List.{get_or-map, length-map}
 use Rattle.std.proofs.ByRecursion.{All-get_or}
@@ -7,7 +7,7 @@ use Rattle.model.specs.Tree.{Entry, at}
 use Rattle.lent_bytes.proofs.Same.{same_path_lem}
 use Rattle.cells.specs.Layout.{cut, path_part, Formed, Holds, entry_of, entries_of}
 use Rattle.lent_bytes.specs.Numbers.{be32}
-use Rattle.lent_bytes.specs.Paths.{path_of, path_bytes, Spells}
+use Rattle.lent_bytes.specs.Paths.{path_of, Spells}
 
 get_or_cut_suc : (mem ps : List ℕ) (i : ℕ) → suc i < length ps → get_or (cut mem ps) i [] ≡ between (get_or ps i 0) (get_or ps (suc i) 0) mem
 unfolding cut

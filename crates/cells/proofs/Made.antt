@@ -1,8 +1,8 @@
 -- A cell that is written is that of its entry. Assumes nothing.
-use Rattle.std.proofs.Common.{◌≡◌, ℕ, ◌+◌, ◌-◌, ◌<◌, ◌≤◌, true, List, [], ◌∷◌, ◌++◌, length, get_or, take, drop, sym, refl, ap, ◌∙◌, subst, append_assoc, arith, length-append}
+use Rattle.std.proofs.Common.{◌≡◌, ℕ, ◌+◌, ◌-◌, ◌≤◌, true, List, ◌++◌, length, take, drop, sym, refl, ap, ◌∙◌, subst, arith, length-append}
 use Rattle.std.proofs.lemmas.List.{take_at, drop_at, drop-drop}
 use Rattle.cells.specs.declared.cell.Head.{Head}
-use Rattle.model.specs.Tree.{Entry, path_ok}
+use Rattle.model.specs.Tree.{path_ok}
 use Rattle.lent_bytes.specs.Numbers.{be32, be64, be4, be8}
 use Rattle.cells.specs.Layout.{head_bytes, head_of, cell_bytes, entry_of, entry_from, path_part, Formed, FitHead}
 use Rattle.lent_bytes.specs.Paths.{path_of, Spells}

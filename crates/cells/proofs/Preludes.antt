@@ -1,9 +1,9 @@
 -- What stands before the entries: with other counts it has the same sessions. Assumes nothing.
-use Rattle.std.proofs.Common.{◌≡◌, ℕ, zero, suc, ◌+◌, ◌-◌, ◌*◌, ◌<◌, ◌≤◌, Bool, true, false, ◌||◌, List, [], ◌∷◌, ◌++◌, length, get_or, take, drop, sym, refl, ap, ◌∙◌, subst, append_assoc, arith, length-append, length-drop}
+use Rattle.std.proofs.Common.{◌≡◌, ℕ, zero, suc, ◌+◌, ◌<◌, ◌≤◌, List, [], ◌∷◌, ◌++◌, length, get_or, drop, sym, refl, ap, ◌∙◌, append_assoc, arith, length-append, length-drop}
 use Rattle.std.proofs.lemmas.List.{get_or-append-add, get_or-drop, length-take-le}
-use Rattle.model.specs.Tree.{Entry, State}
-use Rattle.lent_bytes.specs.Numbers.{be32, be64, be4, be8}
-use Rattle.lent_bytes.proofs.Places.{be32_same, be64_same, be32_take, be64_front}
+use Rattle.model.specs.Tree.{Entry}
+use Rattle.lent_bytes.specs.Numbers.{be32, be64, be8}
+use Rattle.lent_bytes.proofs.Places.{be32_same, be64_same, be32_take}
 use Rattle.lent_bytes.proofs.Rounds.{read_be8, length_be8}
 use Rattle.cells.specs.Layout.{numbers_at, sessions_in, prelude_of, prelude_with, begins_at, state_from, Holds}
 

@@ -1,11 +1,10 @@
 -- A tree takes no more bytes than it weighs, behind its prelude. Assumes nothing.
-use Rattle.std.proofs.Common.{◌≡◌, ℕ, zero, suc, ◌+◌, ◌-◌, ◌*◌, ◌<◌, ◌≤◌, Bool, true, false, not, ◌&&◌, ltb, leb, List, [], ◌∷◌, ◌++◌, length, get_or, take, drop, sym, refl, ap, ◌∙◌, subst, arith, length-append, length-drop}
+use Rattle.std.proofs.Common.{◌≡◌, ℕ, suc, ◌+◌, ◌<◌, ◌≤◌, List, [], ◌∷◌, length, get_or, sym, ap, subst, arith, length-drop}
 use Rattle.std.specs.List.{between, AllByRecursion as All}
 use Rattle.std.proofs.lemmas.List.Edits.{length-between}
-use Rattle.std.proofs.lemmas.Bool.{and_parts, leb-true}
-use Rattle.model.specs.Tree.{Name, Path, every, none, name_ok, path_ok, weight_of}
+use Rattle.model.specs.Tree.{weight_of}
 use Rattle.lent_bytes.specs.Numbers.{be32}
-use Rattle.lent_bytes.specs.Paths.{path_of, path_bytes, Spells}
+use Rattle.lent_bytes.specs.Paths.{path_of}
 use Rattle.lent_bytes.proofs.PathBytes.{path_long}
 use Rattle.cells.specs.Layout.{path_part, Formed, Holds, cut, last_of, entry_of, entries_of}
 

@@ -1,9 +1,9 @@
 -- How a tree lies in memory: what stands before the entries, then their cells one behind the other, and the places where they begin. Assumes nothing.
-use Rattle.std.specs.Prelude.{◌≡◌, ℕ, zero, suc, ◌+◌, ◌-◌, ◌*◌, ◌<◌, ◌≤◌, Bool, true, false, List, [], ◌∷◌, ◌++◌, map, length, take, drop, slice_index, slice_index_or}
+use Rattle.std.specs.Prelude.{◌≡◌, ℕ, zero, suc, ◌+◌, ◌*◌, ◌<◌, ◌≤◌, true, List, [], ◌∷◌, ◌++◌, map, length, take, drop, slice_index, slice_index_or}
 use Rattle.std.specs.List.{between, AllByRecursion as All}
-use Rattle.model.specs.Tree.{Name, Path, Entry, State, path_ok}
+use Rattle.model.specs.Tree.{Entry, State, path_ok}
 use Rattle.lent_bytes.specs.Numbers.{be32, be64, be4, be8}
-use Rattle.lent_bytes.specs.Paths.{path_of, path_bytes, Spells}
+use Rattle.lent_bytes.specs.Paths.{path_of, Spells}
 use Rattle.cells.specs.declared.cell.Head.{Head}
 
 -- A cell: value's length (4), path's length (4), version, made, changed, kids, owner (8 each), path, value.

@@ -1,5 +1,5 @@
 -- What put, drop and check do, by what was found. Assumes nothing.
-use Rattle.std.proofs.Common.{◌≡◌, ℕ, ◌+◌, ◌<◌, ◌≤◌, Bool, true, false, not, ◌&&◌, ◌||◌, ltb, leb, List, [], ◌∷◌, ◌++◌, length, get_or, sym, refl, ap, ◌∙◌, subst}
+use Rattle.std.proofs.Common.{◌≡◌, ℕ, ◌+◌, ◌<◌, ◌≤◌, Bool, true, false, not, ◌||◌, ltb, leb, List, [], length, get_or, refl, ap, ◌∙◌}
 use Rattle.std.specs.List.{AllByRecursion as All}
 use Rattle.std.proofs.lemmas.Bool.{and_from, and_left, or_right, le-leb, lt-leb, not_from_false}
 use Rattle.model.specs.Tree.{Path, Entry, State, Expect, Step, Bad, Good, Put, Drop, Check, acts, unless, at, change, keep, has_kids, put_in, with_entries, path_ok, value_ok, every}

@@ -9,12 +9,12 @@ ghost use Rattle.cells.specs.Fits.{Suits};
 ghost use Rattle.tree.specs.Answers.{step_of};
 ghost use Rattle.tree.specs.Steps.{counting, weighed, Ready};
 
-use lent_bytes::counts::{Count, Version};
 use calls::types::Expected;
 use cells::cell::{Head, path_in, read_head};
 use cells::draft::Size;
 use cells::held::{Tree, cell_at, changes_of, has_kids, top_of};
 use drafts::writing::{push_cells, push_others, replace, start};
+use lent_bytes::counts::{Count, Version};
 use tree::refusal::Refusal;
 use tree::seeking::find_expected;
 use tree::weighing::has_room;

@@ -1,6 +1,6 @@
 -- In memory that suits a room a scan finds every tree that fits. Assumes nothing.
-use Rattle.std.proofs.Common.{◌≡◌, ℕ, ◌+◌, ◌/◌, ◌<◌, ◌≤◌, true, List, length, Some, None, Option, arith}
-use Rattle.scan.specs.Scans.{places_of, IsTree, Scanned}
+use Rattle.std.proofs.Common.{ℕ, ◌+◌, ◌/◌, ◌<◌, ◌≤◌, List, length, Some, None, Option, arith}
+use Rattle.scan.specs.Scans.{places_of, Scanned}
 use Rattle.tree.proofs.Seeks.{is_false}
 use Rattle.tree.proofs.Weighs.{space}
 use Rattle.content.specs.Content.{is_tree, Accepted}

@@ -1,16 +1,16 @@
 -- The computed test is the same as being a tree that fits. Assumes nothing.
-use Rattle.std.proofs.Common.{◌≡◌, ℕ, zero, suc, ◌+◌, ◌-◌, ◌*◌, ◌/◌, ◌<◌, ◌≤◌, Bool, true, false, ◌&&◌, eqb, ltb, leb, List, [], ◌∷◌, length, get_or, take, drop, Some, None, Decides, Option, sym, refl, ap, ◌∙◌, subst, add-one, arith}
+use Rattle.std.proofs.Common.{◌≡◌, ℕ, zero, suc, ◌+◌, ◌*◌, ◌<◌, ◌≤◌, Bool, leb, List, [], ◌∷◌, length, get_or, drop, Decides, refl, add-one, arith}
 use Rattle.std.specs.List.{AllByRecursion as All}
-use Rattle.std.proofs.lemmas.Bool.{and_parts, and_from, eqb-true, eq-eqb, leb-true, le-leb}
+use Rattle.std.proofs.lemmas.Bool.{and_parts, and_from, leb-true, le-leb}
 use Rattle.std.proofs.lemmas.Bool.Decides.{Decides-and, Decides-eqb, Decides-like}
-use Rattle.model.specs.Tree.{Entry, State, every, same_name, path_ok, weight_of}
+use Rattle.model.specs.Tree.{Entry, State, every, weight_of}
 use Rattle.lent_bytes.specs.Numbers.{be32}
-use Rattle.lent_bytes.specs.Paths.{path_bytes, path_of, Spells}
+use Rattle.lent_bytes.specs.Paths.{path_bytes, path_of}
 use Rattle.lent_bytes.proofs.Same.{same_name_decides}
-use Rattle.cells.specs.Layout.{Formed, Holds, begins_at, cut, last_of, path_part, entries_of, state_of}
-use Rattle.cells.specs.Fits.{rising, CountsTo, Below, Fits}
-use Rattle.scan.specs.Scans.{cell_long, walked, places_of, meaning, IsTree, Scanned}
-use Rattle.content.specs.Content.{is_cell, is_held, counts_fit, does_fit, is_tree, TreeDecided, Accepted}
+use Rattle.cells.specs.Layout.{Formed, Holds, begins_at, cut, last_of, path_part}
+use Rattle.cells.specs.Fits.{CountsTo, Fits}
+use Rattle.scan.specs.Scans.{cell_long, walked, places_of, meaning}
+use Rattle.content.specs.Content.{is_cell, is_held, counts_fit, does_fit, is_tree, TreeDecided}
 
 every_decides : {A : Type 0} (p : A → Bool) (P : A → Type 0) → ((x : A) → Decides (p x) (P x)) → (xs : List A) → Decides (every p xs) (All P xs)
 unfolding every

@@ -1,4 +1,6 @@
 // Bytes from elsewhere as a tree: a test that can be computed, and what it is that they mean.
+#![tactic(auto)]
+
 ghost use Rattle.std.specs.Prelude.{◌+◌, ◌/◌, ◌<◌, ◌≤◌, length};
 ghost use Rattle.content.specs.Content.{Accepted, TreeDecided};
 

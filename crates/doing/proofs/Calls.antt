@@ -1,13 +1,13 @@
 -- A call of one act is that act, weighed. Assumes nothing.
-use Rattle.std.proofs.Common.{◌≡◌, ℕ, suc, ◌+◌, ◌<◌, ◌≤◌, Bool, true, false, cond, not, ◌&&◌, ◌||◌, ltb, leb, List, [], ◌∷◌, ◌++◌, length, IfOk, Ok, Err, Result, sym, refl, ap, ◌∙◌, subst, ⊎_elim, arith}
-use Rattle.std.proofs.lemmas.Bool.{cases_Bool, cond-true, cond-false, or_from, or_cases, and_left, lt-leb, le-ltb, ltb-true}
+use Rattle.std.proofs.Common.{◌≡◌, ℕ, ◌+◌, ◌<◌, Bool, true, false, not, ◌&&◌, ◌||◌, ltb, leb, List, [], ◌∷◌, length, IfOk, Ok, Err, Result, sym, refl, ap, ◌∙◌, subst, ⊎_elim, arith}
+use Rattle.std.proofs.lemmas.Bool.{cases_Bool, cond-true, cond-false, and_left, lt-leb, ltb-true}
 use Rattle.model.specs.Tree as Tree
 use Rattle.model.specs.Tree.{Path, State, Step, Bad, Good, Act, Make, Put, Drop, Check, Do, Out, No, Done, Going, Failed, Fine, acts, goes, all_of, stepped, closed, does, values_in, unless, value_ok, path_ok, every, weight, onward}
 use Rattle.cells.specs.declared.draft.Size.{Size}
-use Rattle.cells.specs.Fits.{Fits, Calm}
+use Rattle.cells.specs.Fits.{Fits}
 use Rattle.cells.specs.Drafts.{drafting}
 use Rattle.tree.specs.declared.refusal.Refusal.{Refusal}
-use Rattle.tree.specs.Answers.{step_of, out_of, reason}
+use Rattle.tree.specs.Answers.{step_of, out_of}
 use Rattle.tree.specs.Steps.{overweight, weighed, counting, at_count}
 use Rattle.doing.proofs.Keeping.{moved}
 

@@ -1,8 +1,8 @@
 -- Every call keeps what makes memory suffice: weights within the room, counts within their bounds, sessions in order. Assumes nothing.
-use Rattle.std.proofs.Common.{◌≡◌, ℕ, zero, suc, ◌+◌, ◌*◌, ◌<◌, ◌≤◌, Bool, true, false, cond, not, ◌&&◌, ◌||◌, eqb, ltb, leb, ◌⊎◌, List, [], ◌∷◌, ◌++◌, length, sym, refl, ap, ◌∙◌, subst, ⊎_elim, arith, length-append}
+use Rattle.std.proofs.Common.{◌≡◌, ℕ, suc, ◌+◌, ◌*◌, ◌≤◌, Bool, true, false, not, ◌||◌, eqb, ltb, leb, List, [], ◌∷◌, ◌++◌, length, sym, refl, ap, ◌∙◌, subst, arith, length-append}
 use Rattle.std.specs.List.{AllByRecursion as All}
 use Rattle.std.proofs.ByRecursion.{All-push, All-weaker}
-use Rattle.std.proofs.lemmas.Bool.{cases_Bool, cond-true, cond-false, cond_both, and_parts, and_from, ltb-true, lt-ltb, leb-true, leb-false, le-leb, or_parts, ltb-false}
+use Rattle.std.proofs.lemmas.Bool.{cond_both, and_parts, and_from, ltb-true, lt-ltb, leb-true, leb-false, le-leb, or_parts, ltb-false}
 use Rattle.model.specs.Tree as Tree
 use Rattle.model.specs.Tree.{Path, Entry, State, Step, Bad, Good, Act, Make, Put, Drop, Check, Call, Do, Look, Kids, Open, End, Going, Failed, Fine, acts, goes, all_of, stepped, closed, does, values_in, unless, some, keep, change, at, put_in, counted, none, weight, weight_of, onward}
 use Rattle.cells.specs.Fits.{rising, CountsTo, Below, Fits, Calm}

@@ -1,7 +1,7 @@
 -- What is refused changes nothing, whatever the call; so a call of several acts is done all or none. Assumes nothing.
-use Rattle.std.proofs.Common.{◌≡◌, ℕ, Bool, true, false, cond, ◌||◌, eqb, ltb, leb, List, [], ◌∷◌, length, sym, refl, ap, ◌∙◌, arith}
+use Rattle.std.proofs.Common.{◌≡◌, ℕ, ◌||◌, eqb, ltb, leb, List, [], length, refl, arith}
 use Rattle.std.proofs.lemmas.Bool.{cond_both}
-use Rattle.model.specs.Tree.{State, Call, Do, Look, Kids, Open, End, Reply, No, Done, Session, Out, Going, Failed, Fine, Path, all_of, closed, does, some, values_in}
+use Rattle.model.specs.Tree.{State, Do, Look, Kids, Open, End, No, Done, Session, Out, Going, Failed, Fine, Path, all_of, closed, does, some, values_in}
 use Rattle.model.specs.Laws.{AllOrNone}
 use Rattle.doing.specs.Laws.{RefusedKeeps}
 

@@ -1,4 +1,6 @@
 // Doing a call: an act by its kind, and a call of one act.
+#![tactic(auto)]
+
 ghost use Rattle.std.specs.Prelude.{◌≡◌, false, [], ◌∷◌, IfOk, nat_lt};
 ghost use Rattle.model.specs.Tree.{acts, does, Do};
 ghost use Rattle.lent_bytes.specs.Paths.{Spells};
@@ -11,11 +13,11 @@ ghost use Rattle.model.specs.Laws.{AllOrNone};
 ghost use Rattle.doing.specs.Laws.{FitsStays, RefusedKeeps};
 ghost use Rattle.tree.specs.Steps.{counting, weighed, Ready};
 
-use lent_bytes::counts::Count;
 use calls::types::{Act, ActKind};
 use cells::draft::Size;
 use cells::held::{Tree, changes_of};
 use changing::acts::{check, drop, put};
+use lent_bytes::counts::Count;
 use making::make;
 use tree::refusal::Refusal;
 

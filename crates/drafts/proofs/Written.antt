@@ -1,6 +1,6 @@
 -- The state that was written. Assumes nothing.
-use Rattle.std.proofs.Common.{◌≡◌, ℕ, ◌<◌, List, ◌++◌, sym, refl, ap, ◌∙◌}
-use Rattle.model.specs.Tree.{Entry, State}
+use Rattle.std.proofs.Common.{◌≡◌, ℕ, ◌<◌, List, ◌++◌, ap, ◌∙◌}
+use Rattle.model.specs.Tree.{Entry}
 use Rattle.lent_bytes.specs.Numbers.{be64}
 use Rattle.cells.specs.declared.draft.Size.{Size}
 use Rattle.cells.specs.Layout.{state_from, prelude_with, sessions_in}

@@ -7,11 +7,11 @@ ghost use Rattle.lent_bytes.specs.Paths.{path_of, Spells};
 ghost use Rattle.cells.specs.Layout.{head_bytes, cell_bytes, entry_from, entry_of, entries_of, Formed, Holds, prelude_of, prelude_with};
 ghost use Rattle.cells.specs.Drafts.{Drafts, Grown, Begun, Next, replaced, drafting};
 
-use lent_bytes::counts::Count;
-use lent_bytes::writing::{append_bytes, append_u32, append_u64};
 use cells::cell::{Head, is_at};
 use cells::draft::Size;
 use cells::held::{Tree, cell_at, prelude_of};
+use lent_bytes::counts::Count;
+use lent_bytes::writing::{append_bytes, append_u32, append_u64};
 
 fn append_head(out: &mut [u8], at: usize, h: Head) -> usize
     requires { at + 48 ≤ length out.old }

@@ -1,14 +1,16 @@
 // The tree's calls for C, to measure them from outside (bench/). A C caller is held to no `requires`.
+#![tactic(auto)]
+
 ghost use Rattle.std.specs.Prelude.{◌≤◌, length};
 ghost use Rattle.lent_bytes.specs.Paths.{Spells};
 ghost use Rattle.cells.specs.Layout.{Holds, state_of};
 ghost use Rattle.cells.specs.Fits.{Calm, Fits, Suits};
 
-use lent_bytes::counts::Session;
 use calls::types::{Act, ActKind, Expected};
 use cells::held::Tree;
 use doing::do_one;
 use drafts::writing::start_blank;
+use lent_bytes::counts::Session;
 use scan::scanning::scan;
 use tree::looking::look;
 

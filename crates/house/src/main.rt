@@ -1,11 +1,11 @@
 // The program of one replica: it reads lines, and writes what the replica says to them.
 use alone::Alone;
-use anyhow::anyhow;
 use calls::answers::refused;
 use calls::screening::{Screened, screen};
 use std::alloc::{AllocError, Global};
 use std::fmt::Display;
 use std::io::{BufRead, BufReader, Write};
+use std::process::ExitCode;
 use std::{env, fmt, io};
 use text::command::{Command, CommandFault, Place, read_command, read_place};
 use text::decimal::read_decimal;
@@ -179,10 +179,10 @@ fn start(heap: Global, arguments: Arguments) -> Result<House, AllocError> {
     Ok(House::Other)
 }
 
-fn main(rt: HostRuntime) -> anyhow::Result<()> {
+fn main(rt: HostRuntime) -> anyhow::Result<ExitCode> {
     let Some(arguments) = read_arguments(&rt)? else {
         eprintln!(rt; "usage: house I N CHANCE [ROOM], with I below N and N from 1 to 7")?;
-        return Err(anyhow!("usage"));
+        return Ok(ExitCode::FAILURE);
     };
     let mut house = start(rt.alloc(), arguments)?;
     let mut input = BufReader::new(rt.alloc(), rt.stdin())?;
@@ -190,8 +190,8 @@ fn main(rt: HostRuntime) -> anyhow::Result<()> {
     for _ in 0..u64::MAX {
         match serve(&rt, arguments.place, house, &mut input, &mut line)? {
             Some(next) => house = next,
-            None => return Ok(()),
+            None => return Ok(ExitCode::SUCCESS),
         }
     }
-    Ok(())
+    Ok(ExitCode::SUCCESS)
 }

@@ -1,9 +1,9 @@
 -- Paths as bytes. Assumes nothing.
-use Rattle.std.proofs.Common.{◌≡◌, ℕ, zero, suc, ◌+◌, ◌-◌, ◌*◌, ◌<◌, ◌≤◌, Bool, true, false, not, ◌&&◌, ltb, leb, List, [], ◌∷◌, ◌++◌, length, get_or, take, drop, sym, refl, ap, ◌∙◌, subst, append_assoc, append-nil, arith, length-append}
-use Rattle.std.specs.List.{AllByRecursion as All, between}
-use Rattle.std.proofs.lemmas.List.{take_at, drop_at, take-append-le, append_cancel_left}
-use Rattle.std.proofs.lemmas.Bool.{and_parts, and_from, lt-ltb, le-leb, ltb-true, leb-true}
-use Rattle.model.specs.Tree.{Name, Path, every, none, name_ok, path_ok}
+use Rattle.std.proofs.Common.{◌≡◌, ℕ, zero, suc, ◌*◌, ◌<◌, ◌≤◌, Bool, true, not, ◌&&◌, ltb, leb, List, [], ◌∷◌, ◌++◌, length, take, drop, sym, refl, ap, ◌∙◌, append_assoc, arith, length-append}
+use Rattle.std.specs.List.{AllByRecursion as All}
+use Rattle.std.proofs.lemmas.List.{take_at, drop_at}
+use Rattle.std.proofs.lemmas.Bool.{and_parts, and_from, lt-ltb, leb-true}
+use Rattle.model.specs.Tree.{Path, every, none, name_ok, path_ok}
 use Rattle.lent_bytes.specs.Paths.{names_of, path_of, path_bytes, Spells}
 
 names_round : (k : ℕ) (p : Path) → length (path_bytes p) ≤ k → names_of k (path_bytes p) ≡ p

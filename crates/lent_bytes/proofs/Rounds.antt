@@ -1,5 +1,5 @@
 -- Numbers that are written are read again as they were. Assumes nothing.
-use Rattle.std.proofs.Common.{◌≡◌, ℕ, ◌+◌, ◌*◌, ◌/◌, ◌%◌, ◌<◌, List, ◌++◌, length, sym, refl, ap, ◌∙◌, subst, mod-eq_of_lt, div-add-mod', arith}
+use Rattle.std.proofs.Common.{◌≡◌, ℕ, ◌+◌, ◌*◌, ◌/◌, ◌%◌, ◌<◌, List, ◌++◌, length, refl, mod-eq_of_lt, div-add-mod', arith}
 use Rattle.lent_bytes.specs.Numbers.{be32, be64, be4, be8}
 use native.Mathlib.Nat.{div-div-eq-div-mul}
 use Rattle.std.proofs.lemmas.Nat.{div_below}

@@ -1,11 +1,11 @@
 -- A walk over the names of a path. Assumes nothing.
-use Rattle.std.proofs.Common.{◌≡◌, ℕ, zero, suc, ◌+◌, ◌-◌, ◌<◌, ◌≤◌, Bool, true, false, not, ◌&&◌, ltb, leb, List, [], ◌∷◌, ◌++◌, length, get_or, take, drop, Decides, sym, refl, ap, ◌∙◌, subst, append_assoc, append-nil, one-add, arith, length-append, length-drop, length-take}
+use Rattle.std.proofs.Common.{◌≡◌, ℕ, suc, ◌+◌, ◌-◌, ◌<◌, ◌≤◌, true, false, not, ◌&&◌, ltb, leb, List, [], ◌∷◌, ◌++◌, length, get_or, take, drop, Decides, sym, refl, ap, ◌∙◌, append_assoc, append-nil, arith, length-append, length-drop}
 use Rattle.std.specs.List.{AllByRecursion as All, between}
 use Rattle.std.proofs.lemmas.List.{take_at, take_all, drop_more, length-take-le, take-append-drop, length_push}
 use Rattle.std.proofs.ByRecursion.{All-take, All-drop}
 use Rattle.std.proofs.lemmas.List.Edits.{split_between, length-between}
 use Rattle.std.proofs.lemmas.Bool.{and_parts, and_from, lt-ltb, le-leb, ltb-true, leb-true, false≢true}
-use Rattle.model.specs.Tree.{Name, Path, every, none, name_ok, path_ok}
+use Rattle.model.specs.Tree.{Path, every, none, name_ok, path_ok}
 use Rattle.lent_bytes.specs.Paths.{path_of, path_bytes, Spells}
 use Rattle.lent_bytes.proofs.PathBytes.{path_is, spells_is, bytes_append, names_front, every_all, every_push, every_at}
 

@@ -1,5 +1,5 @@
 -- Writing at the end. Assumes nothing.
-use Rattle.std.proofs.Common.{◌≡◌, ℕ, ◌+◌, ◌≤◌, List, [], ◌∷◌, ◌++◌, length, take, sym, refl, ap, ◌∙◌, subst, append_assoc, arith, length-append}
+use Rattle.std.proofs.Common.{◌≡◌, ℕ, List, ◌++◌, take, ap, ◌∙◌, subst, append_assoc, arith, length-append}
 use Rattle.lent_bytes.specs.Writing.{Added}
 
 -- one after another

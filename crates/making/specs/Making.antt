@@ -1,5 +1,5 @@
 -- Making an entry, in parts. Assumes nothing.
-use Rattle.std.specs.Prelude.{◌≡◌, ℕ, ◌+◌, Bool, true, false, not, ◌&&◌, List, [], ◌∷◌, ◌++◌, is_some, Ok, Err, Option, Result, ◌==◌, nat_eq}
+use Rattle.std.specs.Prelude.{◌≡◌, ℕ, ◌+◌, Bool, true, false, not, ◌&&◌, [], ◌∷◌, ◌++◌, is_some, Ok, Err, Option, Result, ◌==◌, nat_eq}
 use Rattle.model.specs.Tree as Tree
 use Rattle.model.specs.Tree.{Path, Entry, State, Step, Bad, unless, none, there, find, at, some, owner_of, counted, with_entries}
 use Rattle.cells.specs.Searches.{Found}

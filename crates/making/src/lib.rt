@@ -1,4 +1,6 @@
 // Making entries: what refuses it, and the tree with one entry more.
+#![tactic(auto)]
+
 ghost use Rattle.std.specs.Prelude.{◌≡◌, ◌+◌, ◌<◌, ◌≤◌, true, false, not, ◌&&◌, [], ◌∷◌, length, is_some, IfSome, IfOk, ◌==◌, nat_eq, slice_index_or};
 ghost use Rattle.std.specs.List.{AllByRecursion as All};
 ghost use Rattle.model.specs.Tree.{above, acts, at, none, path_ok, some, Make};
@@ -11,13 +13,13 @@ ghost use Rattle.tree.specs.Answers.{step_of};
 ghost use Rattle.making.specs.Making.{Above, Hindered, kid_made, with_made};
 ghost use Rattle.tree.specs.Steps.{at_count, counting, weighed, Ready};
 
-use lent_bytes::counts::{Count, Session, Version};
-use lent_bytes::paths::{check_path, last_name};
 use cells::cell::{Head, path_in, read_head, value_in};
 use cells::draft::Size;
 use cells::held::{Tree, cell_at, changes_of, find_at, is_open, top_of};
 use changing::acts::copy_all;
 use drafts::writing::{push_entry, replace, start};
+use lent_bytes::counts::{Count, Session, Version};
+use lent_bytes::paths::{check_path, last_name};
 use tree::refusal::Refusal;
 use tree::weighing::has_room;
 

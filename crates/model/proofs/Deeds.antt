@@ -1,10 +1,10 @@
 -- What one act does to the entries: each that is there afterwards was there before, and went on from there, or was made just now; and a tree stays a tree. Assumes nothing.
-use Rattle.std.proofs.Common.{◌≡◌, ℕ, zero, suc, ◌+◌, ◌<◌, ◌≤◌, Bool, true, false, cond, not, ◌&&◌, ◌||◌, eqb, ltb, leb, ◌⊎◌, List, [], ◌∷◌, ◌++◌, length, sym, refl, ap, ◌∙◌, subst, inl, inr, ⊎_elim, arith}
+use Rattle.std.proofs.Common.{◌≡◌, ℕ, ◌+◌, ◌<◌, ◌≤◌, Bool, true, false, cond, not, ◌&&◌, ◌||◌, eqb, ltb, leb, ◌⊎◌, List, [], ◌∷◌, ◌++◌, length, sym, refl, ap, ◌∙◌, subst, inl, inr, ⊎_elim, arith}
 use mathlib.Core.List.Memᴰ
 use mathlib.Core.List.{Memᴰ}
-use Rattle.std.proofs.lemmas.Bool.{and_parts, and_from, and_cases, or_cases, or_parts, cases_Bool, false≢true, not-true, not-false, not_from_false, not_from_true, eqb-true, ltb-false, leb-false}
-use Rattle.model.specs.Tree.{Path, Entry, State, some, every, keep, change, find, none, above, last_name, renamed, digits, same_path, at, there, is_kid, has_kids, path_ok, value_ok, count_at, counted, with_entries, true_name, owner_of, version_of, meets, put_in, Step, Bad, Good, unless, makes, Act, Make, Put, Drop, Check, acts}
-use Rattle.model.proofs.Members.{some_member, some_from, none_pass, changed_member, member_changed, some_changed, kept_member, member_kept, find_member}
+use Rattle.std.proofs.lemmas.Bool.{and_from, or_parts, cases_Bool, false≢true, not-false, not_from_false, eqb-true, ltb-false, leb-false}
+use Rattle.model.specs.Tree.{Path, Entry, State, some, every, keep, change, find, none, above, last_name, digits, same_path, at, there, is_kid, has_kids, path_ok, value_ok, count_at, counted, with_entries, true_name, owner_of, put_in, Step, Good, unless, Act, Make, Put, Drop, Check, acts}
+use Rattle.model.proofs.Members.{none_pass, changed_member, member_changed, some_changed, kept_member, member_kept, find_member}
 use Rattle.model.proofs.Same.{same_path_decides, above_renamed, numbered_ok}
 use Rattle.model.proofs.Once.{once_changed, once_push, once_kept}
 use Rattle.model.specs.Laws.{paths_once}

@@ -1,9 +1,9 @@
 -- What a whole call does: several acts one after the other, looking, kids, opening and ending. From what each act does, to what a call leaves. Assumes nothing.
-use Rattle.std.proofs.Common.{◌≡◌, ℕ, zero, suc, ◌+◌, ◌<◌, ◌≤◌, Bool, true, false, cond, not, ◌&&◌, ◌||◌, eqb, ltb, leb, ◌⊎◌, List, [], ◌∷◌, ◌++◌, length, sym, refl, ap, ◌∙◌, subst, inl, inr, ⊎_elim, arith}
+use Rattle.std.proofs.Common.{◌≡◌, ℕ, suc, ◌+◌, ◌<◌, ◌≤◌, Bool, true, not, ◌||◌, eqb, ltb, leb, ◌⊎◌, List, [], ◌∷◌, ◌++◌, length, sym, refl, ap, ◌∙◌, subst, inl, inr, ⊎_elim, arith}
 use mathlib.Core.List.Memᴰ
 use mathlib.Core.List.{Memᴰ}
-use Rattle.std.proofs.lemmas.Bool.{cond_both, false≢true, not-true, not_from_false, eqb-true, eq-eqb, ltb-true, lt-ltb, cases_Bool, ne_eqb}
-use Rattle.model.specs.Tree.{Path, Entry, State, some, every, keep, Act, Step, Bad, Good, acts, Going, Failed, Fine, stepped, goes, all_of, closed, Out, Call, Do, Look, Kids, Open, End, does, weight, onward, values_in, above}
+use Rattle.std.proofs.lemmas.Bool.{cond_both, not_from_false, eqb-true, ltb-true, lt-ltb, ne_eqb}
+use Rattle.model.specs.Tree.{Entry, State, some, keep, Act, Step, Bad, Good, acts, Going, Failed, Fine, stepped, goes, all_of, closed, Out, Call, Do, Look, Kids, Open, End, does, onward, values_in}
 use Rattle.model.specs.Laws.{Sound}
 use Rattle.model.proofs.Members.{every_member, every_from, some_member, some_from, kept_member, member_kept}
 use Rattle.model.proofs.Proper.{Proper, sound_proper, proper_sound}

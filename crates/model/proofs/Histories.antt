@@ -1,9 +1,9 @@
 -- Laws over any number of calls: it stays a tree; counts never fall; a version tells the value; numbered names. Assumes nothing.
-use Rattle.std.proofs.Common.{◌≡◌, ℕ, zero, suc, ◌+◌, ◌*◌, ◌/◌, ◌%◌, ◌<◌, ◌≤◌, Bool, true, false, cond, not, ◌&&◌, ◌||◌, eqb, ltb, leb, ◌⊎◌, List, [], ◌∷◌, ◌++◌, length, sym, refl, ap, ◌∙◌, subst, inl, inr, ⊎_elim, append-nil, div-add-mod', arith}
+use Rattle.std.proofs.Common.{◌≡◌, ℕ, zero, suc, ◌+◌, ◌*◌, ◌/◌, ◌%◌, ◌<◌, ◌≤◌, Bool, true, cond, not, ◌&&◌, ◌||◌, ltb, ◌⊎◌, List, [], ◌∷◌, ◌++◌, sym, refl, ap, ◌∙◌, subst, inl, inr, ⊎_elim, div-add-mod', arith}
 use mathlib.Core.List.{Memᴰ}
 use Rattle.std.proofs.lemmas.List.{same_from_push, append_cancel_left}
-use Rattle.std.proofs.lemmas.Bool.{cond_both, cond-true, cond-false, false≢true, cases_Bool}
-use Rattle.model.specs.Tree.{Name, Path, Entry, State, blank, some, find, change, none, above, last_name, renamed, digits, at, there, same_path, count_at, kids_of, counted, true_name, every, Step, Bad, Good, acts, Act, Make, Call, Do, Reply, No, Done, Out, does, Going, Failed, Fine, stepped, goes, all_of, closed, values_in, weight}
+use Rattle.std.proofs.lemmas.Bool.{cond_both, false≢true}
+use Rattle.model.specs.Tree.{Name, Path, Entry, State, blank, find, change, none, above, last_name, renamed, digits, at, there, count_at, kids_of, true_name, every, Step, Bad, Good, acts, Make, Do, No, Done, Out, does, Failed, Fine, stepped, goes, all_of, closed, values_in, weight}
 use Rattle.model.specs.Laws.{paths_once, Sound, StaysSound, Run, still, onward, CountsRise, TopRises, VersionsTell, Numbered, SameMaking, NumbersDiffer}
 use Rattle.model.proofs.Members.{find_changed, find_member, some_from}
 use Rattle.model.proofs.Same.{same_path_decides, above_renamed, path_some}

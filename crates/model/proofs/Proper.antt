@@ -1,10 +1,10 @@
 -- What makes entries and sessions a tree, said of members, up to a count of changes that a call under way may already have given out; and which ways to change entries keep it. Assumes nothing.
-use Rattle.std.proofs.Common.{◌≡◌, ℕ, zero, suc, ◌+◌, ◌<◌, ◌≤◌, Bool, true, false, cond, not, ◌&&◌, ◌||◌, T, eqb, ltb, leb, ◌⊎◌, List, [], ◌∷◌, ◌++◌, sym, refl, ap, ◌∙◌, subst, inl, inr, ⊎_elim, arith}
+use Rattle.std.proofs.Common.{◌≡◌, ℕ, ◌≤◌, Bool, true, false, ◌&&◌, ◌||◌, T, eqb, ltb, leb, ◌⊎◌, List, sym, refl, subst, inl, inr, ⊎_elim}
 use mathlib.Core.List.{Memᴰ}
-use Rattle.std.proofs.lemmas.Bool.{and_parts, and_from, or_cases, or_left, or_right, cases_Bool, cond_both, false≢true, not-true, not-false, not_from_false, eqb-true, eq-eqb, leb-true, le-leb}
-use Rattle.model.specs.Tree.{Path, Entry, State, some, every, keep, change, none, above, same_path, at, path_ok}
+use Rattle.std.proofs.lemmas.Bool.{and_parts, and_from, or_cases, or_left, or_right, eqb-true, eq-eqb, leb-true, le-leb}
+use Rattle.model.specs.Tree.{Entry, State, some, every, none, above, same_path, path_ok}
 use Rattle.model.specs.Laws.{paths_once, entry_ok, Sound}
-use Rattle.model.proofs.Members.{every_member, every_from, some_member, some_from, none_pass, kept_member, member_kept, some_changed}
+use Rattle.model.proofs.Members.{every_member, every_from, some_member, some_from}
 use Rattle.model.proofs.Same.{same_path_decides}
 
 -- n: the highest count of changes that an entry may bear

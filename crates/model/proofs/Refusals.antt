@@ -1,7 +1,7 @@
 -- What is refused leaves the tree as it was; what only looks, too; and any other call is one change. Assumes nothing.
-use Rattle.std.proofs.Common.{◌≡◌, ℕ, ◌+◌, Bool, true, false, cond, ◌||◌, eqb, ltb, leb, ◌⊎◌, List, [], length, sym, refl, ap, ◌∙◌, subst, inl, inr, ⊎_elim, arith}
+use Rattle.std.proofs.Common.{◌≡◌, ℕ, ◌+◌, Bool, true, false, ◌||◌, eqb, ltb, leb, ◌⊎◌, [], length, sym, refl, ap, inl, inr, ⊎_elim, arith}
 use Rattle.std.proofs.lemmas.Bool.{cond_both, false≢true}
-use Rattle.model.specs.Tree.{State, Act, Call, Do, Look, Kids, Open, End, Reply, No, Done, Out, does, Going, Failed, Fine, all_of, closed, values_in, some}
+use Rattle.model.specs.Tree.{State, Call, Do, Look, Kids, Open, End, No, Out, does, Going, Failed, Fine, all_of, closed, values_in, some}
 use Rattle.model.specs.Laws.{AllOrNone, RefusalsKeep, ReadsKeep, OneChange, reads}
 use Rattle.model.proofs.Going.{Led, all_led, did_nothing}
 

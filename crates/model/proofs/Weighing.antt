@@ -1,8 +1,8 @@
 -- The entries never weigh more than the room; and a making adds its name behind those that were there. Assumes nothing.
-use Rattle.std.proofs.Common.{◌≡◌, ℕ, zero, suc, ◌+◌, ◌*◌, ◌<◌, ◌≤◌, Bool, true, false, cond, not, ◌&&◌, ◌||◌, eqb, ltb, leb, ◌⊎◌, List, [], ◌∷◌, ◌++◌, map, length, sym, refl, ap, ◌∙◌, subst, inl, inr, ⊎_elim, append-nil, arith}
+use Rattle.std.proofs.Common.{◌≡◌, ℕ, suc, ◌+◌, ◌≤◌, Bool, true, cond, not, ◌&&◌, ◌||◌, eqb, ltb, leb, List, [], ◌∷◌, ◌++◌, map, length, sym, refl, ap, ◌∙◌, ⊎_elim, arith}
 use Rattle.std.proofs.lemmas.Bool.{cond_both, cond-true, cond-false, and_cases, ltb-false, and_from}
 use Rattle.std.proofs.lemmas.List.{map_push}
-use Rattle.model.specs.Tree.{Name, Path, Entry, State, keep, change, none, above, last_name, same_path, at, is_kid, kid_names, true_name, weight_of, weight, Step, Bad, Good, acts, Act, Make, Call, Do, Look, Kids, Open, End, Out, does, Going, Failed, Fine, stepped, goes, all_of, closed, values_in, some}
+use Rattle.model.specs.Tree.{Name, Path, Entry, State, keep, change, none, above, last_name, same_path, at, is_kid, kid_names, true_name, weight_of, weight, Step, Bad, Good, acts, Act, Do, Look, Kids, Open, End, Out, does, Going, Failed, Fine, stepped, goes, all_of, closed, values_in, some}
 use Rattle.model.specs.Laws.{RoomKept, KidsInOrder}
 use Rattle.model.proofs.Same.{same_path_decides, path_some}
 use Rattle.model.proofs.Deeds.{act_did, make_parts, counting, new_entry, true_above, true_ok}

@@ -1,6 +1,6 @@
 -- Worked cases of the tree: one table of calls, done one after the other from the blank tree, and what each is answered; computed by the checker. Assumes nothing.
-use Rattle.std.specs.Prelude.{◌≡◌, ℕ, zero, suc, Bool, true, false, List, [], ◌∷◌, ◌++◌, replicate}
-use Rattle.model.specs.Tree.{Name, Path, State, blank, Expect, Any, Version, Act, Make, Put, Drop, Check, Call, Do, Look, Kids, Open, End, Reply, No, Done, Entry', Names, Session, does, digits}
+use Rattle.std.specs.Prelude.{◌≡◌, ℕ, true, false, List, [], ◌∷◌, ◌++◌, replicate}
+use Rattle.model.specs.Tree.{Name, Path, State, blank, Any, Version, Make, Put, Drop, Check, Call, Do, Look, Kids, Open, End, Reply, No, Done, Entry', Names, Session, does, digits}
 
 -- a room of 64 MiB
 abbrev pub room : ℕ

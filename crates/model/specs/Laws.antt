@@ -1,8 +1,8 @@
 -- Laws of the tree's definitions. Each is a type; a proof of the type is the theorem.
 -- Assumes nothing.
-use Rattle.std.specs.Prelude.{◌≡◌, ℕ, zero, suc, ◌+◌, ◌*◌, ◌<◌, ◌≤◌, Bool, true, false, cond, not, ◌&&◌, ◌||◌, T, ◌⊎◌, List, [], ◌∷◌, ◌++◌, map, length, ◌==◌, ◌≢◌, nat_eq, nat_le, nat_lt}
+use Rattle.std.specs.Prelude.{◌≡◌, ℕ, ◌+◌, ◌≤◌, Bool, true, false, not, ◌&&◌, ◌||◌, T, ◌⊎◌, List, [], ◌∷◌, ◌++◌, ◌==◌, ◌≢◌, nat_eq, nat_le, nat_lt}
 use mathlib.Core.List.{Memᴰ}
-use Rattle.model.specs.Tree.{Name, Path, Entry, State, blank, some, every, above, last_name, renamed, digits, count_at, same_path, at, none, Act, Make, Call, Do, Look, Kids, Open, End, Reply, No, Done, does, path_ok, weight_of, acts, Good, kid_names, true_name}
+use Rattle.model.specs.Tree.{Path, Entry, State, blank, some, every, above, last_name, renamed, digits, count_at, same_path, at, none, Act, Make, Call, Do, Look, Kids, Open, End, No, Done, does, path_ok, weight_of, acts, Good, kid_names, true_name}
 
 -- The tree stays a tree: each path once, each but those at the top under one that is there, nothing under what goes with a session.
 unfoldable pub paths_once : List Entry → Bool

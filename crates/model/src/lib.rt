@@ -1,4 +1,6 @@
 // The tree's meaning: what each call answers and leaves (specs/Tree.antt), and the laws that are proved of it, each named by a contract.
+#![tactic(auto)]
+
 ghost use Rattle.model.specs.Laws.{StaysSound, AllOrNone, RefusalsKeep, ReadsKeep, OneChange, RoomKept, KidsInOrder, CountsRise, TopRises, Numbered, NumbersDiffer, VersionsTell};
 ghost use Rattle.model.specs.Cases.{WorkedCases};
 

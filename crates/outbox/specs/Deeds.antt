@@ -1,5 +1,5 @@
 -- What a turn says, as headers: the list that an outbox is, and what a leader or a candidate says to all others, as the machine has it.
-use Rattle.std.specs.Prelude.{ℕ, zero, suc, ◌<◌, Bool, true, false, cond, ◌||◌, List, [], ◌∷◌, ◌++◌, get_or, take, is_some, Some, None, Option, ◌==◌, slice_index_or}
+use Rattle.std.specs.Prelude.{ℕ, zero, suc, ◌<◌, cond, ◌||◌, List, [], ◌∷◌, ◌++◌, get_or, take, is_some, Some, None, Option, ◌==◌, slice_index_or}
 use Rattle.agreement.specs.declared.Agreement.{Agreement}
 use Rattle.agreement.specs.Content.{fresh_place}
 use Rattle.agreement.specs.Machine.{counts}

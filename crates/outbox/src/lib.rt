@@ -1,4 +1,6 @@
 // What a turn says, as a short list of headers by value. A proposal that is said is the one that is held when the turn ends, and a call lies in a slot of memory: so headers carry neither.
+#![tactic(auto)]
+
 ghost use Rattle.std.specs.Prelude.{◌≡◌, ◌+◌, ◌<◌, ◌≤◌, List, [], ◌∷◌, ◌++◌};
 ghost use Rattle.outbox.specs.Deeds.{list_of, aliveBy, word_by, tellBy, tellAllBy, askBy, askAllBy, tellDoneBy, Below};
 

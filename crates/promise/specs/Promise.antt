@@ -1,7 +1,6 @@
 -- What is promised of the whole. Each is a type; a proof of the type is the theorem.
 -- Assumes nothing.
-use Rattle.std.specs.Prelude.{◌≡◌, ◌⊎◌, Bool, true, false, cond, ◌&&◌, ◌||◌, not, ℕ, zero, suc, ◌+◌, ◌*◌, ◌<◌, ◌≤◌, eqb, ltb, leb, T, length}
-use mathlib.Core.List.{List, [], ◌∷◌, ◌++◌, map, Memᴰ}
+use Rattle.std.specs.Prelude.{◌≡◌, Bool, cond, ℕ}
 use Rattle.model.specs.Tree.{State, blank, Call, Reply, No, does, core}
 use Rattle.runs.specs.Replicas.{Code}
 use Rattle.runs.specs.Room.{Clerk, LikeARoom, BusyAtNine, OnlyWaiting}

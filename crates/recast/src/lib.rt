@@ -1,4 +1,6 @@
 // The ways in which agreement changes, each as the machine has it: a struct by value, changed and handed back.
+#![tactic(auto)]
+
 ghost use Rattle.std.specs.Prelude.{◌≡◌, suc, ◌<◌, ◌≤◌, true, false, cond, not, ◌&&◌, ◌||◌, Some, ◌==◌, slice_set};
 ghost use Rattle.agreement.specs.declared.Role.TheVariants.{Recovering, Follower, Candidate, Leader};
 ghost use Rattle.agreement.specs.Content.{limit, rank_id};

@@ -1,9 +1,9 @@
 -- A program that keeps its promises keeps them over messages that are written and read, where all that is said is read again: each run with written messages is a run of the program itself, with the same things seen. Assumes nothing.
-use Rattle.std.proofs.Common.{◌≡◌, ℕ, zero, suc, ◌+◌, ◌*◌, ◌<◌, ◌≤◌, Bool, true, false, cond, not, ◌&&◌, T, ◌⊎◌, List, [], ◌∷◌, ◌++◌, map, Some, None, Option, sym, refl, ap, ◌∙◌, subst, inl, inr, ⊎_elim, append_assoc, arith}
+use Rattle.std.proofs.Common.{◌≡◌, ℕ, suc, ◌*◌, ◌<◌, ◌≤◌, true, not, ◌&&◌, List, [], ◌∷◌, ◌++◌, map, Some, Option, sym, refl, ap, ◌∙◌, subst, ⊎_elim, arith}
 use mathlib.Core.List.Memᴰ
 use mathlib.Core.List.{Memᴰ}
-use Rattle.runs.specs.Replicas.{Comes, Said, Call', Beat, Does, Says, Gives, Whole', Code, Letter, House, gone, there, Waits, Scene, Seen, asked, gave, at, posted, given, whole, answered_off, left_by, was_asked, how_many, turned, with_call, New, woken, fallen, Goes, first, hears, is_asked, beats, falls, wakes}
-use Rattle.runs.specs.Carrying.{Writing, written, written_turn, hears_written, turns_written, over_writing, ReadsAgainOfSeven}
+use Rattle.runs.specs.Replicas.{Said, Call', Beat, Does, Says, Gives, Whole', Code, Letter, there, Waits, Scene, Seen, asked, gave, at, posted, given, whole, answered_off, how_many, turned, with_call, New, woken, fallen, Goes, first, hears, is_asked, beats, falls, wakes}
+use Rattle.runs.specs.Carrying.{Writing, written, hears_written, turns_written, over_writing, ReadsAgainOfSeven}
 
 module _ {M N : Type 0} (f : M → N) where
   abbrev pub sent_letter : Letter M → Letter N

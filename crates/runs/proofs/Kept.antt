@@ -1,12 +1,12 @@
 -- The four promises, kept over messages that are written and read: from those of the program itself, by `carry`; and for progress, what a group can do is done with written messages too. Assumes nothing.
-use Rattle.std.proofs.Common.{◌≡◌, ℕ, zero, suc, ◌+◌, ◌*◌, ◌<◌, ◌≤◌, Bool, true, false, cond, not, ◌&&◌, ◌⊎◌, List, [], ◌∷◌, ◌++◌, map, Some, None, Option, sym, refl, ap, ◌∙◌, subst, inl, inr, ⊎_elim, append_assoc, arith}
+use Rattle.std.proofs.Common.{◌≡◌, ℕ, suc, ◌≤◌, List, ◌++◌, map, Some, None, Option, sym, refl, ap, ◌∙◌, subst, inl, inr, ⊎_elim, append_assoc, arith}
 use mathlib.Core.List.Memᴰ
 use mathlib.Core.List.{Memᴰ}
-use Rattle.runs.specs.Replicas.{Comes, Said, Call', Beat, Does, Says, Gives, Whole', Code, Letter, House, gone, there, Waits, Scene, Seen, given, turned, New, woken, is_in, count_of, how_many, Goes, hears, beats, wakes}
+use Rattle.runs.specs.Replicas.{Comes, Said, Call', Beat, Gives, Code, Scene, Seen, given, turned, count_of, Goes, hears, beats, wakes}
 use Rattle.runs.specs.Room.{Clerk, LikeARoom, BusyAtNine, OnlyWaiting}
 use Rattle.runs.specs.Progress.{Among, stay, talk, beat, wake, Enough, AnswersAndHealsWithin}
-use Rattle.runs.specs.Carrying.{Writing, written, hears_written, turns_written, over_writing, ReadsAgainOfSeven}
-use Rattle.runs.proofs.Carrying.{sent_letter, sent, gives_written, map_append, mapped_member, said_again, beat_again, scene_again, seen_again, Carried, carry}
+use Rattle.runs.specs.Carrying.{Writing, hears_written, turns_written, over_writing, ReadsAgainOfSeven}
+use Rattle.runs.proofs.Carrying.{sent_letter, sent, gives_written, map_append, mapped_member, said_again, beat_again, scene_again, seen_again, carry}
 
 -- what a group does is part of a run
 pub among_goes : {M O R : Type 0} (c : Code M O R) (all : ℕ) (group : List ℕ) (n : ℕ) (es : List (Seen O R)) (s : Scene c.Mind M) → Goes c all n es s → (fs : List (Seen O R)) (u : Scene c.Mind M) → Among c all group s fs u → (k : ℕ) × Goes c all k (fs ++ es) u

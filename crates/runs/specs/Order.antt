@@ -1,6 +1,6 @@
 -- Linearizable, as an order: what clients saw in the room can be had by doing the calls one after the other, in an order that respects what came before what. What it is for there to be such an order.
 -- Assumes nothing.
-use Rattle.std.specs.Prelude.{◌≡◌, ℕ, ◌+◌, ◌≤◌, Bool, cond, ◌⊎◌, List, [], ◌∷◌, ◌++◌, ◌==◌}
+use Rattle.std.specs.Prelude.{◌≡◌, ℕ, ◌+◌, ◌≤◌, cond, ◌⊎◌, List, [], ◌∷◌, ◌++◌, ◌==◌}
 use mathlib.Core.List.{Memᴰ}
 use Rattle.runs.specs.Replicas.{Seen, asked, gave}
 use Rattle.runs.specs.Room.{Clerk}

@@ -1,8 +1,8 @@
 -- What it is for enough replicas to answer every call that waits, and to bring the others up again.
 -- Assumes nothing.
-use Rattle.std.specs.Prelude.{◌≡◌, ℕ, zero, suc, ◌+◌, ◌*◌, ◌<◌, ◌≤◌, Bool, true, false, cond, not, ◌&&◌, ◌||◌, T, eqb, ltb, leb, ◌⊎◌, List, [], ◌∷◌, ◌++◌, map, length}
+use Rattle.std.specs.Prelude.{◌≡◌, ℕ, ◌*◌, ◌<◌, ◌≤◌, false, not, ◌&&◌, List, [], ◌++◌}
 use mathlib.Core.List.{Memᴰ}
-use Rattle.runs.specs.Replicas.{Comes, Said, Call', Beat, Does, Code, Scene, Letter, House, gone, there, Waits, Seen, asked, gave, given, turned, woken, New, is_in, how_many, Goes}
+use Rattle.runs.specs.Replicas.{Said, Beat, Code, Scene, Letter, gone, there, Waits, Seen, gave, given, turned, woken, New, is_in, how_many, Goes}
 
 -- What the replicas of a group can do from the scene s on by themselves: messages said since s within the group come (talk), ticks (beat), and replicas of the group that are down come up (wake).
 -- No message from before s, none from outside, no new call, no crash. es: what clients see meanwhile.

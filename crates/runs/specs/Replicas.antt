@@ -1,6 +1,6 @@
 -- Replicas without disks: their program as a pure machine, messages under way, crashes in which all is forgotten, and coming up again. What a run is.
 -- Assumes nothing.
-use Rattle.std.specs.Prelude.{◌≡◌, ℕ, zero, suc, ◌+◌, ◌*◌, ◌<◌, ◌≤◌, Bool, true, false, cond, not, ◌&&◌, ◌||◌, T, ◌⊎◌, List, [], ◌∷◌, ◌++◌, map, length, ◌==◌}
+use Rattle.std.specs.Prelude.{◌≡◌, ℕ, zero, suc, ◌+◌, ◌*◌, ◌<◌, Bool, true, false, cond, not, ◌&&◌, ◌||◌, T, List, [], ◌∷◌, ◌++◌, ◌==◌}
 use mathlib.Core.List.{Memᴰ}
 
 -- An input of a replica (a 'house'): a message of another replica, a client's call under its number, a tick ('beat') of its clock.

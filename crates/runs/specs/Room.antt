@@ -1,8 +1,8 @@
 -- One room with one clerk, and what it is for replicas to be indistinguishable from it.
 -- Assumes nothing.
-use Rattle.std.specs.Prelude.{◌≡◌, ℕ, zero, suc, ◌+◌, ◌*◌, ◌<◌, ◌≤◌, Bool, true, false, cond, not, ◌&&◌, ◌||◌, T, eqb, ltb, leb, ◌⊎◌, List, [], ◌∷◌, ◌++◌, map, length}
+use Rattle.std.specs.Prelude.{◌≡◌, ℕ, ◌<◌, ◌≤◌, ◌⊎◌, List, [], ◌∷◌, ◌++◌}
 use mathlib.Core.List.{Memᴰ}
-use Rattle.runs.specs.Replicas.{Comes, Said, Call', Beat, Does, Says, Gives, Whole', Code, Scene, House, gone, there, Waits, Seen, asked, gave, count_of, Goes}
+use Rattle.runs.specs.Replicas.{Comes, Call', Gives, Code, Scene, there, Seen, asked, gave, count_of, Goes}
 
 -- THE REFERENCE: one room with one clerk, who does one call after the other on one state. busy: the answer to a call that is handed back undone.
 pub record Clerk (O R : Type 0) : Type 1 where

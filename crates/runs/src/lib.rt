@@ -1,1 +1,3 @@
+#![tactic(auto)]
+
 // Replicas, runs and the room: definitions in specs/ only.

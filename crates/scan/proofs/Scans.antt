@@ -1,15 +1,14 @@
 -- A walk over the cells of bytes finds the only places that hold them. Assumes nothing.
-use Rattle.std.proofs.Common.{◌≡◌, ℕ, ◌+◌, ◌-◌, ◌<◌, ◌≤◌, List, [], ◌∷◌, ◌++◌, length, get_or, take, drop, set, sym, refl, ap, ◌∙◌, subst, ⊎_elim, arith, length-drop, length-set}
+use Rattle.std.proofs.Common.{◌≡◌, ℕ, ◌+◌, ◌-◌, ◌<◌, ◌≤◌, List, [], ◌∷◌, ◌++◌, length, get_or, take, drop, set, sym, ap, ◌∙◌, subst, ⊎_elim, arith, length-drop, length-set}
 use Rattle.std.specs.List.{between}
-use Rattle.std.proofs.lemmas.List.{take_rest, take_all, take_more_set, length-take-le, get_or_append_left}
+use Rattle.std.proofs.lemmas.List.{take_rest, take_all, take_more_set, length-take-le}
 use Rattle.std.proofs.lemmas.List.Edits.{length-between}
 use Rattle.std.proofs.lemmas.Bool.{cases_lt}
-use Rattle.lent_bytes.specs.Numbers.{be32}
 use Rattle.lent_bytes.proofs.Places.{be32_take}
-use Rattle.cells.specs.Layout.{begins_at, Formed, Holds, cut}
+use Rattle.cells.specs.Layout.{begins_at, Formed, Holds}
 use Rattle.cells.proofs.Cells.{get_or_cut, good_at}
 use Rattle.scan.proofs.Ends.{only}
-use Rattle.cells.proofs.Pushes.{holds_push, holds_none, last_place, climb}
+use Rattle.cells.proofs.Pushes.{holds_push, holds_none, last_place}
 use Rattle.lent_bytes.proofs.Walks.{take_on}
 
 -- what is left behind a place, as code has it

@@ -1,8 +1,8 @@
 -- Places that hold bytes are those that the bytes have: so bytes have one meaning. Assumes nothing.
-use Rattle.std.proofs.Common.{◌≡◌, ℕ, zero, suc, ◌+◌, ◌-◌, ◌<◌, ◌≤◌, List, [], ◌∷◌, length, get_or, take, drop, sym, refl, ap, ◌∙◌, subst, arith, length-drop}
-use Rattle.std.specs.List.{between, AllByRecursion as All}
+use Rattle.std.proofs.Common.{◌≡◌, ℕ, zero, suc, ◌+◌, ◌-◌, ◌<◌, ◌≤◌, List, [], ◌∷◌, length, get_or, drop, sym, refl, ap, ◌∙◌, subst, arith, length-drop}
+use Rattle.std.specs.List.{AllByRecursion as All}
 use Rattle.std.proofs.lemmas.List.{drop_all, drop-drop}
-use Rattle.cells.specs.Layout.{Formed, Holds, begins_at, cut, last_of, state_of}
+use Rattle.cells.specs.Layout.{Formed, Holds, cut, last_of, state_of}
 use Rattle.cells.specs.Fits.{Fits}
 use Rattle.scan.specs.Scans.{cell_long, walked, places_of, IsTree, HoldsUnique}
 use Rattle.scan.proofs.Ends.{only}

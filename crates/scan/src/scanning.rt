@@ -5,10 +5,10 @@ ghost use Rattle.cells.specs.Layout.{begins_at, Formed, Holds, sessions_in, stat
 ghost use Rattle.cells.specs.Fits.{rising, Below, Fits};
 ghost use Rattle.scan.specs.Scans.{CellsAt, Scanned, HoldsUnique};
 
-use lent_bytes::numbers::{read_u32, read_u64};
-use lent_bytes::paths::check_path;
 use cells::cell::read_head;
 use cells::held::{Tree, cell_at, changes_of, prelude_of, session_count, top_of, weight_of};
+use lent_bytes::numbers::{read_u32, read_u64};
+use lent_bytes::paths::check_path;
 
 // How long the cell is with which bytes begin, if they begin with one.
 fn cell_len(bytes: &[u8]) -> Option<usize>

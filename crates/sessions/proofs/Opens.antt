@@ -1,11 +1,11 @@
 -- The sessions of a tree with one more behind those that were open. Assumes nothing.
-use Rattle.std.proofs.Common.{◌≡◌, ℕ, zero, suc, ◌+◌, ◌-◌, ◌*◌, ◌<◌, ◌≤◌, Bool, true, false, cond, leb, List, [], ◌∷◌, ◌++◌, length, get_or, take, drop, sym, refl, ap, ◌∙◌, subst, append-nil, add-one, arith, length-append, length-drop}
+use Rattle.std.proofs.Common.{◌≡◌, ℕ, zero, suc, ◌+◌, ◌*◌, ◌<◌, ◌≤◌, leb, List, [], ◌∷◌, ◌++◌, length, get_or, drop, sym, refl, ap, ◌∙◌, append-nil, arith, length-append, length-drop}
 use Rattle.std.proofs.lemmas.List.{get_or-append-add, get_or-drop, length-take-le}
 use Rattle.std.proofs.lemmas.Bool.{cond-true, cond-false, le-leb, lt-leb}
 use Rattle.model.specs.Tree.{Entry, State, Out, No, Session, Open, does}
 use Rattle.lent_bytes.specs.Numbers.{be32, be64, be4, be8}
 use Rattle.lent_bytes.proofs.Places.{be32_take, be64_same, be64_front}
-use Rattle.lent_bytes.proofs.Rounds.{round4, round8, read_be8, length_be8, length_be4}
+use Rattle.lent_bytes.proofs.Rounds.{round4, round8, read_be8}
 use Rattle.cells.specs.Layout.{numbers_at, sessions_in, state_from, state_of, prelude_of, begins_at, Holds}
 use Rattle.cells.proofs.Preludes.{numbers_same, length_numbers}
 use Rattle.sessions.specs.Opening.{opened}

@@ -1,15 +1,13 @@
 -- Loops over the sessions besides one: how many, and their bytes. Assumes nothing.
-use Rattle.std.proofs.Common.{◌≡◌, ℕ, zero, suc, ◌+◌, ◌-◌, ◌*◌, ◌<◌, ◌≤◌, Bool, true, false, cond, not, eqb, List, [], ◌∷◌, ◌++◌, length, get_or, take, drop, sym, refl, ap, ◌∙◌, subst, append_assoc, append-nil, arith, length-append}
+use Rattle.std.proofs.Common.{◌≡◌, ℕ, suc, ◌+◌, ◌-◌, ◌*◌, ◌<◌, not, eqb, List, [], ◌∷◌, ◌++◌, length, get_or, take, sym, refl, ap, ◌∙◌, append_assoc, append-nil, arith, length-append}
 use native.Mathlib.Nat.{sub-zero}
 use Rattle.std.proofs.lemmas.Bool.{eq-eqb, ne_eqb, cond-true, cond-false}
 use Rattle.std.specs.List.{AllByRecursion as All}
-use Rattle.std.proofs.lemmas.List.{length_push, get_or-append-add}
+use Rattle.std.proofs.lemmas.List.{get_or-append-add}
 use Rattle.model.specs.Tree.{keep}
 use Rattle.lent_bytes.specs.Numbers.{be64, be8}
 use Rattle.lent_bytes.specs.Writing.{Added}
-use Rattle.lent_bytes.proofs.Writes.{and_then, the_same}
 use Rattle.lent_bytes.proofs.Rounds.{read_be8, length_be8}
-use Rattle.lent_bytes.proofs.Places.{be64_same}
 use Rattle.cells.specs.Layout.{numbers_at}
 use Rattle.cells.proofs.Preludes.{numbers_step, numbers_none, numbers_same}
 use Rattle.sessions.specs.Ending.{others, numbers_bytes}

@@ -1,5 +1,5 @@
 -- What ending a session writes and answers. Assumes nothing.
-use Rattle.std.specs.Prelude.{◌≡◌, ℕ, Bool, not, List, [], ◌∷◌, ◌++◌, length, Ok, Err, Result, ◌==◌}
+use Rattle.std.specs.Prelude.{ℕ, not, List, [], ◌∷◌, ◌++◌, length, Ok, Err, Result, ◌==◌}
 use Rattle.model.specs.Tree.{State, Out, No, Done, keep}
 use Rattle.lent_bytes.specs.Numbers.{be4, be8}
 use Rattle.cells.specs.declared.draft.Size.{Size}

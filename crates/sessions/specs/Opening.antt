@@ -1,5 +1,5 @@
 -- What opening a session writes and answers. Assumes nothing.
-use Rattle.std.specs.Prelude.{◌≡◌, ℕ, List, ◌++◌, Ok, Err, Result}
+use Rattle.std.specs.Prelude.{ℕ, List, ◌++◌, Ok, Err, Result}
 use Rattle.model.specs.Tree.{State, Out, No, Session}
 use Rattle.lent_bytes.specs.Numbers.{be4, be8}
 use Rattle.cells.specs.Drafts.{drafting}

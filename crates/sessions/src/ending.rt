@@ -8,13 +8,13 @@ ghost use Rattle.cells.specs.Drafts.{Begun, drafting, Drafts, Grown};
 ghost use Rattle.cells.specs.Fits.{Calm, Fits, Suits};
 ghost use Rattle.sessions.specs.Ending.{ended, ended_of, numbers_bytes, others};
 
-use lent_bytes::counts::{Count, Session};
-use lent_bytes::numbers::{read_u32, read_u64};
-use lent_bytes::writing::{append_u32, append_u64};
 use cells::cell::read_head;
 use cells::draft::Size;
 use cells::held::{Tree, cell_at, changes_of, is_open, prelude_of, top_of};
 use drafts::writing::push_cells;
+use lent_bytes::counts::{Count, Session};
+use lent_bytes::numbers::{read_u32, read_u64};
+use lent_bytes::writing::{append_u32, append_u64};
 use tree::refusal::Refusal;
 
 // How many sessions are open besides one.

@@ -6,12 +6,12 @@ ghost use Rattle.cells.specs.Drafts.{Begun, drafting, Drafts};
 ghost use Rattle.cells.specs.Fits.{Calm, Fits, Suits};
 ghost use Rattle.sessions.specs.Opening.{opened, opened_of};
 
-use lent_bytes::counts::{Count, Session};
-use lent_bytes::numbers::read_u64;
-use lent_bytes::writing::{append_bytes, append_u32, append_u64};
 use cells::draft::Size;
 use cells::held::{Tree, changes_of, prelude_of, session_count, top_of};
 use drafts::writing::push_cells;
+use lent_bytes::counts::{Count, Session};
+use lent_bytes::numbers::read_u64;
+use lent_bytes::writing::{append_bytes, append_u32, append_u64};
 use tree::refusal::Refusal;
 
 // The number that was given, and how much the tree with it takes.

@@ -1,5 +1,5 @@
 -- What put, drop and check are refused by, told by where their entry was found. Assumes nothing.
-use Rattle.std.proofs.Common.{◌≡◌, ℕ, Bool, true, false, not, ◌||◌, List, [], ◌∷◌, get_or, sym, refl, ap, ◌∙◌, ⊎_elim}
+use Rattle.std.proofs.Common.{◌≡◌, ℕ, Bool, true, false, not, [], ◌∷◌, get_or, refl, ap, ◌∙◌, ⊎_elim}
 use Rattle.std.proofs.lemmas.Bool.{cases_Bool}
 use Rattle.model.specs.Tree.{Path, Entry, State, Expect, Step, Bad, unless, meets, version_of, find, some, at, path_ok}
 use Rattle.cells.specs.Searches.{First}

@@ -1,5 +1,5 @@
 -- What looking answers; it leaves the tree as it is. Assumes nothing.
-use Rattle.std.specs.Prelude.{◌≡◌, ℕ, Bool, true, false, cond, not, ◌||◌, List, take, Ok, Err, Result}
+use Rattle.std.specs.Prelude.{◌≡◌, ℕ, cond, ◌||◌, List, take, Ok, Err, Result}
 use Rattle.model.specs.Tree.{Path, State, Reply, No, Entry', Names, Out, none, path_ok, there}
 use Rattle.lent_bytes.specs.Paths.{path_of}
 use Rattle.tree.specs.declared.looking.Seen.{Seen}

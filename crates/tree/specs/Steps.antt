@@ -1,8 +1,8 @@
 -- One act in parts: what refuses it, what it weighs, and the count of changes that the tree has afterwards. Assumes nothing.
-use Rattle.std.specs.Prelude.{◌≡◌, ℕ, ◌+◌, ◌*◌, ◌<◌, ◌≤◌, Bool, true, false, cond, not, ◌&&◌, ◌||◌, List, [], length, Some, None, Ok, Err, Option, Result, nat_lt}
-use Rattle.model.specs.Tree.{Path, Entry, State, Expect, Step, Bad, Good, Act, unless, meets, version_of, find, at, there, none, above, weight, weight_of, path_ok}
+use Rattle.std.specs.Prelude.{◌≡◌, ℕ, ◌<◌, ◌≤◌, Bool, cond, not, ◌&&◌, length, Ok, Err, Result, nat_lt}
+use Rattle.model.specs.Tree.{Path, State, Expect, Step, Bad, Good, unless, meets, version_of, find, at, there, weight, weight_of, path_ok}
 use Rattle.cells.specs.Fits.{Below}
-use Rattle.cells.specs.Searches.{First, Found}
+use Rattle.cells.specs.Searches.{First}
 use Rattle.tree.specs.declared.refusal.Refusal.{Refusal}
 use Rattle.tree.specs.Answers.{reason}
 

@@ -8,10 +8,10 @@ ghost use Rattle.cells.specs.Layout.{Formed, Holds, entry_of, state_of};
 ghost use Rattle.tree.specs.Looking.{entry_told, names_told, Listable};
 
 use crate::refusal::Refusal;
-use lent_bytes::paths::{check_path, last_name};
-use lent_bytes::writing::append_bytes;
 use cells::cell::{Head, is_kid, path_in, read_head, value_in};
 use cells::held::{Tree, cell_at, find_at};
+use lent_bytes::paths::{check_path, last_name};
+use lent_bytes::writing::append_bytes;
 
 // What is told of an entry: the value is a part of the tree's bytes.
 #[derive(Clone, Copy)]

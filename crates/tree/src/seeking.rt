@@ -7,11 +7,11 @@ ghost use Rattle.cells.specs.Layout.{Holds, state_of};
 ghost use Rattle.tree.specs.Steps.{Sought};
 
 use crate::refusal::Refusal;
-use lent_bytes::counts::Version;
-use lent_bytes::paths::check_path;
 use calls::types::Expected;
 use cells::cell::read_head;
 use cells::held::{Tree, cell_at, find_at};
+use lent_bytes::counts::Version;
+use lent_bytes::paths::check_path;
 
 // Is this the version that is expected.
 fn is_met(expected: Expected, version: Version) -> bool

@@ -1,12 +1,8 @@
-use Rattle.std.proofs.Common.{◌≡◌, ℕ, ◌+◌, List, [], ◌∷◌, Ok, Err, Result, sym, ap, ◌∙◌, subst, arith}
-use Rattle.model.specs.Tree.{State, Step, Do, acts, does}
+use Rattle.std.proofs.Common.{ℕ, ◌+◌, [], ◌∷◌, sym, ap, ◌∙◌, arith}
+use Rattle.model.specs.Tree.{Do, acts}
 use Rattle.calls.specs.Reading.{act_of}
-use Rattle.cells.specs.declared.draft.Size.{Size}
 use Rattle.cells.specs.Layout.{state_of}
-use Rattle.cells.specs.Drafts.{drafting}
-use Rattle.cells.specs.Fits.{Fits}
-use Rattle.tree.specs.declared.refusal.Refusal.{Refusal}
-use Rattle.tree.specs.Answers.{made_by, out_of}
+use Rattle.tree.specs.Answers.{made_by}
 use Rattle.tree.specs.Steps.{counting, weighed}
 use Rattle.doing.proofs.Keeping.{held_first, ready, fits_stays}
 use Rattle.doing.proofs.Calls.{answered, one_act, answer_is, answer_made}

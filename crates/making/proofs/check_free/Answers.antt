@@ -1,9 +1,9 @@
-use Rattle.std.proofs.Common.{◌≡◌, ℕ, Option, sym, ◌∙◌, subst}
+use Rattle.std.proofs.Common.{sym, ◌∙◌, subst}
 use Rattle.std.proofs.lemmas.Bool.{eq-eqb, ne_eqb, not-true, not-false, not_from_true, not_from_false}
 use Rattle.model.specs.Tree as Tree
 use Rattle.model.specs.Tree.{at}
 use Rattle.lent_bytes.specs.Paths.{path_of}
-use Rattle.cells.specs.Layout.{entry_of, entries_of, state_of}
+use Rattle.cells.specs.Layout.{entry_of, state_of}
 use Rattle.cells.specs.Searches.{Found}
 use Rattle.cells.proofs.Counts.{head_owner}
 use Rattle.cells.proofs.Firsts.{some_first}

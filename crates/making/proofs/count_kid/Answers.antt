@@ -1,8 +1,8 @@
-use Rattle.std.proofs.Common.{◌≡◌, ℕ, ◌+◌, [], length, get_or, sym, refl, ap, ◌∙◌, subst, arith}
+use Rattle.std.proofs.Common.{ℕ, [], length, get_or, sym, ap, ◌∙◌, arith}
 use Rattle.model.specs.Tree.{Entry}
 use Rattle.cells.specs.declared.cell.Head.{Head}
 use Rattle.cells.specs.Layout.{entry_of, entries_of, prelude_of, prelude_with}
-use Rattle.cells.specs.Drafts.{Next, replaced}
+use Rattle.cells.specs.Drafts.{replaced}
 use Rattle.cells.proofs.Cells.{length_entries}
 use Rattle.cells.proofs.Counts.{counts_at}
 use Rattle.drafts.proofs.Grows.{next, next_as}

@@ -1,12 +1,12 @@
-use Rattle.std.proofs.Common.{◌≡◌, ℕ, ◌+◌, ◌-◌, ◌<◌, true, false, List, [], ◌∷◌, length, sym, refl, ap, ◌∙◌, subst, arith, rules}
+use Rattle.std.proofs.Common.{◌≡◌, ℕ, ◌+◌, ◌-◌, ◌<◌, List, [], ◌∷◌, length, sym, refl, ap, ◌∙◌, arith}
 use Rattle.std.proofs.ByRecursion.{All-from_get_or}
 use Rattle.std.proofs.lemmas.Bool.{not-true, not-false}
 use Rattle.std.proofs.lemmas.Bool.Decides.{not_from_Decides}
-use Rattle.model.specs.Tree.{Path, Entry, State, Bad, Good, Make, acts, makes, value_ok, weight}
+use Rattle.model.specs.Tree.{Path, Entry, Bad, weight}
 use Rattle.lent_bytes.specs.Paths.{path_of}
 use Rattle.lent_bytes.proofs.PathBytes.{path_long}
 use Rattle.cells.specs.Layout.{state_of}
-use Rattle.making.specs.Making.{with_made, hindered}
+use Rattle.making.specs.Making.{with_made}
 use Rattle.tree.specs.Steps.{at_count, overweight}
 use Rattle.tree.proofs.Seeks.{is_false}
 use Rattle.changing.proofs.Doings.{value_ok_lem}

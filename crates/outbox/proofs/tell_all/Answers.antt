@@ -1,4 +1,4 @@
-use Rattle.std.proofs.Common.{◌≡◌, arith}
+use Rattle.std.proofs.Common.{arith}
 use Rattle.outbox.specs.Deeds.{list_of, tellBy}
 use Rattle.outbox.proofs.Each.{each_none, each_more}
 use Rattle.outbox.proofs.tell_all.Goals as goal

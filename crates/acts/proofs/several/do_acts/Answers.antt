@@ -1,4 +1,4 @@
-use Rattle.std.proofs.Common.{◌≡◌, ℕ, ◌+◌, ◌<◌, ltb, List, [], length, sym, refl, ap, ◌∙◌, subst, arith, rules}
+use Rattle.std.proofs.Common.{ℕ, ◌+◌, ltb, length, sym, ap, ◌∙◌, subst, arith}
 use Rattle.std.proofs.lemmas.Bool.{or_parts, ltb-false}
 use Rattle.model.specs.Tree.{Do, Out, State, Done, values_in}
 use Rattle.calls.specs.Reading.{acts_in}
@@ -10,7 +10,7 @@ use Rattle.tree.proofs.Weighs.{space}
 use Rattle.drafts.proofs.Written.{written}
 use Rattle.acts.specs.Several.{made_all}
 use Rattle.acts.proofs.Readings.{count_is}
-use Rattle.acts.proofs.Ends.{large, does_large, does_none, none_in, ran_answer, ran_fits}
+use Rattle.acts.proofs.Ends.{does_large, does_none, none_in, ran_answer, ran_fits}
 use Rattle.acts.proofs.several.do_acts.Goals as goal
 
 pub returns-then-too_large : goal.returns-then-too_large

@@ -1,10 +1,9 @@
-use Rattle.std.proofs.Common.{◌≡◌, ℕ, ◌+◌, List, [], Some, None, Option, sym, refl, ap, ◌∙◌, arith}
-use Rattle.model.specs.Tree.{Failed, Fine, Going, all_of}
-use Rattle.calls.specs.Reading.{act_of, acts_in}
+use Rattle.std.proofs.Common.{◌≡◌, ℕ, ◌+◌, Some, None, Option, refl, ap, ◌∙◌, arith}
+use Rattle.model.specs.Tree.{Failed}
+use Rattle.calls.specs.Reading.{act_of}
 use Rattle.cells.specs.Layout.{state_of}
 use Rattle.tree.specs.Answers.{reason}
 use Rattle.acts.specs.declared.several.Refused.{Refused}
-use Rattle.acts.specs.Several.{standing}
 use Rattle.acts.proofs.Runs.{acting_first, acting_stop, acting_ready, acting_plain, plain_kind, acting_refused, acting_more, acting_end, count_last, count_before, stands_same, stands_as}
 use Rattle.acts.proofs.several.run_acts.Goals as goal
 use Rattle.acts.proofs.several.run_acts.Goals.{else-acts-test, then-acts-test+in-Some+in-Err, then-n-count, else-n-count}

@@ -1,8 +1,8 @@
-use Rattle.std.proofs.Common.{◌≡◌, ℕ, suc, ◌+◌, ◌-◌, ◌<◌, ◌≤◌, ltb, length, sym, refl, ap, ◌∙◌, subst, arith}
+use Rattle.std.proofs.Common.{ℕ, ◌+◌, ◌-◌, ltb, length, sym, subst, arith}
 use native.Mathlib.Nat.{sub-zero}
 use Rattle.std.proofs.lemmas.Bool.{or_left, or_right, or_from, lt-ltb, le-ltb}
 use Rattle.model.specs.Tree.{values_in}
-use Rattle.calls.specs.Reading.{act_of, acts_in}
+use Rattle.calls.specs.Reading.{acts_in}
 use Rattle.acts.proofs.Readings.{Summed, summed_first, summed_stop, summed_more, summed_over, summed_all, count_is}
 use Rattle.acts.proofs.several.too_large.Goals as goal
 

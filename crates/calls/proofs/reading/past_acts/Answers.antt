@@ -1,4 +1,4 @@
-use Rattle.std.proofs.Common.{ℕ, List, Option, sym, ap, ◌∙◌, arith}
+use Rattle.std.proofs.Common.{sym, ap, ◌∙◌, arith}
 use Rattle.model.specs.Tree.{Act}
 use Rattle.calls.specs.Format.{act_at}
 use Rattle.calls.specs.Reading.{rest}

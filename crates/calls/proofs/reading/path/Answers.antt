@@ -1,5 +1,5 @@
-use Rattle.std.proofs.Common.{◌≡◌, ℕ, ◌-◌, List, length, Some, Option, sym, ap, ◌∙◌, arith, length-append}
-use Rattle.lent_bytes.specs.Paths.{path_bytes, path_of}
+use Rattle.std.proofs.Common.{ℕ, List, length, Some, Option, sym, ap, ◌∙◌, arith, length-append}
+use Rattle.lent_bytes.specs.Paths.{path_bytes}
 use Rattle.lent_bytes.proofs.PathBytes.{path_is, spells_is}
 use Rattle.calls.specs.Format.{and_then, names_at}
 use Rattle.calls.proofs.Back.{names_part, cut_before}

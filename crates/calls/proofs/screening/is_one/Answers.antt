@@ -1,5 +1,5 @@
-use Rattle.std.proofs.Common.{◌≡◌, ℕ, List, [], ◌∷◌, sym, refl, ap, ◌∙◌, arith}
-use Rattle.model.specs.Tree.{Act, one}
+use Rattle.std.proofs.Common.{◌≡◌, ℕ, sym, ap, ◌∙◌}
+use Rattle.model.specs.Tree.{one}
 use Rattle.lent_bytes.specs.Paths.{path_of}
 use Rattle.calls.specs.Reading.{act_of, acts_in}
 use Rattle.calls.proofs.Screens.{many_not_core, one_act, no_act, plain_one}

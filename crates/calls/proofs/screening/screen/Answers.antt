@@ -1,4 +1,4 @@
-use Rattle.std.proofs.Common.{true, false, sym, ◌∙◌}
+use Rattle.std.proofs.Common.{true, false, sym}
 use Rattle.calls.proofs.Screens.{screened_call}
 use Rattle.calls.proofs.screening.screen.Goals as goal
 

@@ -1,4 +1,4 @@
-use Rattle.std.proofs.Common.{◌≡◌, [], sym, ap, ◌∙◌, subst, rules}
+use Rattle.std.proofs.Common.{sym, ap, ◌∙◌, subst, rules}
 use Rattle.std.proofs.lemmas.List.{places}
 use Rattle.cells.specs.Layout.{Formed, entry_of}
 use Rattle.cells.proofs.Cells.{get_or_cut, entry_at, good_at}

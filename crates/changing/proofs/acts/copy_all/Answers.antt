@@ -1,9 +1,9 @@
-use Rattle.std.proofs.Common.{◌≡◌, ℕ, ◌-◌, length, take, sym, refl, ap, ◌∙◌, arith}
+use Rattle.std.proofs.Common.{ℕ, ◌-◌, length, take, sym, refl, ap, ◌∙◌, arith}
 use native.Mathlib.Nat.{sub-zero}
 use Rattle.std.proofs.lemmas.List.{take_all}
 use Rattle.cells.specs.Layout.{entries_of}
 use Rattle.cells.proofs.Cells.{length_entries}
-use Rattle.cells.proofs.Pushes.{last_place, climb, length_span}
+use Rattle.cells.proofs.Pushes.{last_place, length_span}
 use Rattle.drafts.proofs.Grows.{next, next_as}
 use Rattle.changing.proofs.acts.copy_all.Goals as goal
 

@@ -1,5 +1,5 @@
-use Rattle.std.proofs.Common.{◌≡◌, ◌<◌, not, List, [], sym, refl, ◌∙◌, arith, rules}
-use Rattle.model.specs.Tree.{Path, Entry, State, Good, Step, at, keep, weight, with_entries}
+use Rattle.std.proofs.Common.{◌<◌, not, [], sym, refl, ◌∙◌, arith, rules}
+use Rattle.model.specs.Tree.{Path, Entry, State, at, keep, weight, with_entries}
 use Rattle.lent_bytes.specs.Paths.{path_of}
 use Rattle.cells.specs.Layout.{state_of}
 use Rattle.drafts.proofs.Grows.{next}

@@ -1,9 +1,7 @@
-use Rattle.std.proofs.Common.{◌≡◌, ℕ, ◌+◌, ◌-◌, ◌<◌, Bool, true, false, List, [], length, sym, refl, ap, ◌∙◌, arith, rules}
+use Rattle.std.proofs.Common.{◌≡◌, ℕ, ◌+◌, ◌-◌, ◌<◌, List, [], length, sym, refl, ap, ◌∙◌, arith, rules}
 use Rattle.std.proofs.ByRecursion.{All-from_get_or}
 use Rattle.std.proofs.lemmas.Bool.{not-true, not-false}
-use Rattle.model.specs.Tree.{Entry, State, Good, Put, acts, put_in, weight, weight_of, with_entries}
-use Rattle.lent_bytes.specs.Paths.{path_of}
-use Rattle.calls.specs.Reading.{expect_of}
+use Rattle.model.specs.Tree.{Entry, State, Good, put_in, weight, with_entries}
 use Rattle.cells.specs.declared.cell.Head.{Head}
 use Rattle.cells.specs.Layout.{entry_of, entries_of, state_of}
 use Rattle.cells.specs.Drafts.{replaced}

@@ -1,6 +1,6 @@
 use Rattle.std.proofs.Common.{arith, rules}
 use Rattle.cells.specs.Layout.{FitHead}
-use Rattle.drafts.proofs.Grows.{grown, grown_made}
+use Rattle.drafts.proofs.Grows.{grown_made}
 use Rattle.drafts.proofs.writing.push_entry.Goals as goal
 
 pub returns : goal.returns

@@ -1,5 +1,5 @@
-use Rattle.std.proofs.Common.{Bool, not, [], ◌∷◌, ◌++◌, length, sym, refl, ap, ◌∙◌, arith}
-use Rattle.model.specs.Tree.{Entry, at, keep}
+use Rattle.std.proofs.Common.{not, sym, refl, ap, arith}
+use Rattle.model.specs.Tree.{Entry, at}
 use Rattle.lent_bytes.specs.Paths.{path_of}
 use Rattle.cells.specs.Layout.{entry_of, entries_of}
 use Rattle.cells.proofs.Cells.{length_entries}

@@ -1,4 +1,4 @@
-use Rattle.std.proofs.Common.{◌≡◌, ◌+◌, ◌-◌, length, get_or, refl, ◌∙◌, subst, arith}
+use Rattle.std.proofs.Common.{◌-◌, length, arith}
 use Rattle.cells.specs.Layout.{entries_of}
 use Rattle.cells.proofs.Cells.{length_entries}
 use Rattle.cells.proofs.Pushes.{spans, length_span}

@@ -1,6 +1,5 @@
-use Rattle.std.proofs.Common.{◌≡◌, ℕ, List, ◌++◌, drop, ap, ◌∙◌, append_assoc, arith, rules}
+use Rattle.std.proofs.Common.{drop, ap, ◌∙◌, arith, rules}
 use Rattle.std.proofs.lemmas.List.{take_rest}
-use Rattle.lent_bytes.specs.Numbers.{be8}
 use Rattle.lent_bytes.proofs.Writes.{and_then, the_same}
 use Rattle.cells.specs.Layout.{prelude_of}
 use Rattle.cells.proofs.Preludes.{prelude_long, begins_with, prelude_written}

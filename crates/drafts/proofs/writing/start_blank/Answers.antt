@@ -1,4 +1,4 @@
-use Rattle.std.proofs.Common.{refl, ◌∙◌, arith}
+use Rattle.std.proofs.Common.{refl, arith}
 use Rattle.lent_bytes.specs.Numbers.{be32, be64}
 use Rattle.cells.specs.Layout.{numbers_at, state_from}
 use Rattle.drafts.proofs.Grows.{begun}

@@ -1,5 +1,4 @@
 use Rattle.std.proofs.Common.{◌<◌, refl, arith}
-use Rattle.std.specs.List.{AllByRecursion as All}
 use Rattle.std.proofs.ByRecursion.{All-from_get_or}
 use Rattle.lent_bytes.proofs.Walks.{fronts_none, fronts_more, fronts_next, fronts_end, refused}
 use Rattle.lent_bytes.proofs.paths.check_path.Goals as goal

@@ -1,9 +1,8 @@
-use Rattle.std.proofs.Common.{◌≡◌, length, get_or, take, sym, refl, ap, subst, arith}
+use Rattle.std.proofs.Common.{sym, refl, subst, arith}
 use Rattle.std.specs.List.{AllByRecursion as All}
 use Rattle.std.proofs.ByRecursion.{All-more}
 use Rattle.std.proofs.lemmas.List.{take_all}
 use Rattle.lent_bytes.proofs.Walks.{refused}
-use Rattle.model.specs.Tree.{Entry}
 use Rattle.cells.specs.Layout.{entry_of, entries_of}
 use Rattle.cells.specs.Fits.{CountsTo}
 use Rattle.cells.proofs.Cells.{length_entries}

@@ -1,5 +1,5 @@
-use Rattle.std.proofs.Common.{◌≡◌, ℕ, suc, ◌+◌, ◌-◌, ◌*◌, ◌<◌, ◌≤◌, leb, sym, refl, ap, ◌∙◌, arith}
-use Rattle.lent_bytes.specs.Numbers.{be32, be64}
+use Rattle.std.proofs.Common.{ℕ, ◌+◌, ◌-◌, ◌*◌, sym, ap, ◌∙◌, arith}
+use Rattle.lent_bytes.specs.Numbers.{be32}
 use Rattle.cells.specs.Layout.{sessions_in, numbers_at}
 use Rattle.cells.specs.Fits.{rising}
 use Rattle.scan.proofs.Rises.{rises_not, rises_on, rises_all}

@@ -1,9 +1,9 @@
-use Rattle.std.proofs.Common.{◌≡◌, ℕ, suc, ◌+◌, ◌-◌, ◌*◌, List, [], ◌∷◌, ◌++◌, sym, refl, ap, ◌∙◌, subst, arith}
+use Rattle.std.proofs.Common.{ℕ, ◌+◌, ◌-◌, ◌*◌, [], ◌∷◌, ◌++◌, sym, ap, ◌∙◌, arith}
 use Rattle.lent_bytes.specs.Numbers.{be32, be64, be8}
 use Rattle.lent_bytes.proofs.Writes.{and_then, the_same}
 use Rattle.cells.specs.Layout.{sessions_in}
 use Rattle.sessions.specs.Ending.{numbers_bytes}
-use Rattle.sessions.proofs.Others.{Passed, passed_first, passed_skip, passed_more, passed_all, bytes_push, added_none}
+use Rattle.sessions.proofs.Others.{passed_first, passed_skip, passed_more, passed_all, bytes_push, added_none}
 use Rattle.sessions.proofs.ending.append_others.Goals as goal
 
 pub loop-i-init : goal.loop-i-init

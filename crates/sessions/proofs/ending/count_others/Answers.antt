@@ -1,9 +1,8 @@
-use Rattle.std.proofs.Common.{◌≡◌, ℕ, suc, ◌+◌, ◌-◌, ◌*◌, List, [], ◌∷◌, ◌++◌, length, sym, refl, ap, ◌∙◌, subst, arith}
-use native.Mathlib.Nat.{sub-zero}
+use Rattle.std.proofs.Common.{ℕ, ◌+◌, ◌-◌, ◌*◌, [], ◌∷◌, ◌++◌, length, sym, refl, ap, ◌∙◌, arith}
 use Rattle.std.proofs.lemmas.List.{length_push}
 use Rattle.lent_bytes.specs.Numbers.{be32, be64}
 use Rattle.cells.specs.Layout.{sessions_in}
-use Rattle.sessions.proofs.Others.{Passed, passed_first, passed_skip, passed_more, passed_all}
+use Rattle.sessions.proofs.Others.{passed_first, passed_skip, passed_more, passed_all}
 use Rattle.sessions.proofs.ending.count_others.Goals as goal
 
 pub loop-i-init : goal.loop-i-init

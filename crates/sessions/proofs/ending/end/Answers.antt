@@ -1,6 +1,6 @@
-use Rattle.std.proofs.Common.{◌≡◌, ℕ, ◌+◌, ◌<◌, not, eqb, List, [], length, sym, refl, ap, ◌∙◌, subst, arith}
+use Rattle.std.proofs.Common.{ℕ, ◌+◌, ◌<◌, not, eqb, [], length, sym, refl, ap, ◌∙◌, subst, arith}
 use Rattle.model.specs.Tree.{Entry, State, Out, Done, End, keep}
-use Rattle.cells.specs.Layout.{entries_of, state_of}
+use Rattle.cells.specs.Layout.{state_of}
 use Rattle.cells.specs.Fits.{Fits}
 use Rattle.drafts.proofs.Grows.{next}
 use Rattle.doing.proofs.Keeping.{fits_stays}

@@ -1,11 +1,11 @@
-use Rattle.std.proofs.Common.{◌≡◌, ℕ, ◌+◌, ◌*◌, ◌<◌, ◌≤◌, List, ◌++◌, length, sym, refl, ap, ◌∙◌, arith, rules}
+use Rattle.std.proofs.Common.{◌≡◌, ℕ, ◌<◌, List, ◌++◌, length, sym, ap, ◌∙◌, arith, rules}
 use Rattle.lent_bytes.specs.Numbers.{be32, be64, be4, be8}
 use Rattle.lent_bytes.proofs.Writes.{and_then, the_same}
 use Rattle.cells.specs.Layout.{prelude_of, sessions_in, state_of}
 use Rattle.drafts.proofs.Grows.{begun}
 use Rattle.cells.proofs.Preludes.{length_numbers}
 use Rattle.sessions.specs.Ending.{ended, numbers_bytes, others}
-use Rattle.sessions.proofs.Ends.{ended_long, ended_begins}
+use Rattle.sessions.proofs.Ends.{ended_begins}
 use Rattle.sessions.proofs.Opens.{begins_count}
 use Rattle.sessions.proofs.ending.start_ended.Goals as goal
 

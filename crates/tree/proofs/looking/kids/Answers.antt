@@ -1,6 +1,6 @@
-use Rattle.std.proofs.Common.{◌≡◌, ℕ, ◌+◌, Bool, true, false, List, length, take, sym, refl, ap, ◌∙◌, subst, arith}
-use Rattle.model.specs.Tree.{Name, Path, Reply, Out, Names, is_kid, kid_names}
-use Rattle.lent_bytes.specs.Paths.{path_of, path_bytes, Spells}
+use Rattle.std.proofs.Common.{◌≡◌, List, length, take, sym, ap, ◌∙◌, arith}
+use Rattle.model.specs.Tree.{Name, Reply, Names, kid_names}
+use Rattle.lent_bytes.specs.Paths.{path_of}
 use Rattle.lent_bytes.proofs.PathBytes.{path_is, spells_is}
 use Rattle.cells.specs.Layout.{entry_of, entries_of, state_of}
 use Rattle.cells.proofs.Cells.{length_entries}

@@ -1,8 +1,8 @@
-use Rattle.std.proofs.Common.{◌≡◌, ℕ, List, length, ap, ◌∙◌, arith}
+use Rattle.std.proofs.Common.{ℕ, List, length, ap, ◌∙◌, arith}
 use Rattle.std.proofs.lemmas.List.{take_rest}
 use Rattle.model.specs.Tree.{last_name}
 use Rattle.lent_bytes.specs.Paths.{path_of, name_bytes}
-use Rattle.cells.specs.Layout.{entry_of, path_part}
+use Rattle.cells.specs.Layout.{entry_of}
 use Rattle.tree.proofs.Tops.{path_some}
 use Rattle.tree.proofs.Looks.{name_bytes_lem, name_short}
 use Rattle.tree.proofs.looking.name_in.Goals as goal

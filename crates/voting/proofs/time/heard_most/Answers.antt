@@ -1,4 +1,4 @@
-use Rattle.std.proofs.Common.{◌≡◌, refl, arith, lit≤}
+use Rattle.std.proofs.Common.{refl, arith, lit≤}
 use Rattle.std.proofs.lemmas.Bool.Decides.{nat_tests}
 use Rattle.runs.specs.Replicas.{how_many}
 use Rattle.voting.proofs.Counting.{one_more}
