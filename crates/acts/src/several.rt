@@ -12,13 +12,13 @@ ghost use Rattle.tree.specs.Answers.{made_by, numbered};
 ghost use Rattle.tree.specs.Steps.{counting, weighed, Ready};
 ghost use Rattle.acts.specs.Several.{brought, made_all, standing, StandsIn, step_at, Plain, Ran, ran_of};
 
-use lent_bytes::counts::Count;
 use calls::reading::read_act;
 use calls::types::{Act, ActKind};
 use cells::draft::Size;
 use cells::held::{Tree, changes_of, top_of};
 use changing::acts::copy_all;
 use doing::do_act;
+use lent_bytes::counts::Count;
 use tree::refusal::Refusal;
 
 // Where the tree stands to which the acts so far have led: as it was, or in one of the two buffers.
