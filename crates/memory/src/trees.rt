@@ -6,9 +6,9 @@ ghost use Rattle.service.specs.Service.{is_calm};
 ghost use Rattle.memory.specs.Keeps.{standing, state_in, Stands, Sound, HeldAs, TakenTo, AcceptedAs, Unmoved};
 
 use crate::lent::{Kept, Memory};
-use lent_bytes::writing::append_bytes;
 use cells::draft::Size;
 use cells::held::Tree;
+use lent_bytes::writing::append_bytes;
 
 // A tree that lies at the front of a buffer.
 fn front<'b>(bytes: &'b [u8], places: &'b [u32], size: Size) -> Tree<'b>

@@ -1,3 +1,4 @@
 -- Answers in words.
 pub mod Answers
+pub mod ByShape
 pub mod Reading

@@ -2,6 +2,7 @@
 ghost use Rattle.std.specs.Prelude.{◌≡◌, ◌++◌, IfOk, OnOk};
 ghost use Rattle.calls.specs.Format.{refused_at, done_at, entry_at, names_in, session_at, decode_reply};
 ghost use Rattle.replies.specs.Answers.{reason_spelled, refused_spelled, count_spelled, counts_spelled, entry_spelled, Spelled};
+ghost use Rattle.replies.specs.ByShape.{AnswerSpelled};
 
 mod lists;
 mod reading;
@@ -140,8 +141,10 @@ fn tell_kids(heap: Global, out: &mut Vec<u8>, bytes: &[u8]) -> Result<bool, Allo
 }
 
 // Writes the answer in words behind what is there; false where the bytes are no answer, and then nothing is written.
+// What is written of a refusal, a session and an entry is told by the shape of the bytes too.
 pub fn push_answer(heap: Global, out: &mut Vec<u8>, bytes: &[u8]) -> Result<bool, AllocError>
-    ensures { IfOk result (λ b. Spelled (decode_reply bytes.now) b out.old.items out.new.items) }
+    ensures as_read { IfOk result (λ b. Spelled (decode_reply bytes.now) b out.old.items out.new.items) }
+    ensures by_shape { AnswerSpelled bytes.now result out.old.items out.new.items }
 {
     let Some((kind, rest)) = byte(bytes) else {
         return Ok(false);
