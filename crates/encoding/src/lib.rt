@@ -1,4 +1,6 @@
 // Calls as bytes.
+#![tactic(auto)]
+
 mod lengths;
 
 ghost use Rattle.std.specs.Prelude.{◌≡◌, true, ◌∷◌, ◌++◌, map, OnOk};

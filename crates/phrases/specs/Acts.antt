@@ -2,7 +2,7 @@
 -- one of these alone, or `do { ACT; ACT }`, `look PATH`, `kids PATH`, `open`, `end S`.
 use Rattle.std.specs.Prelude.{ℕ, Bool, true, false, cond, List, [], ◌∷◌, length, is_some, Some, None, codes, Option}
 use Rattle.std.specs.Str.{bytes_eq}
-use Rattle.model.specs.Tree.{Path, Expect, Any, Version, Act, Make, Put, Drop, Check, Call, Do, Look, Kids, Open, End}
+use Rattle.model.specs.Tree.{Expect, Any, Version, Act, Make, Put, Drop, Check, Call, Do, Look, Kids, Open, End}
 use Rattle.calls.specs.Format.{and_then}
 use Rattle.words.specs.Words.{unspaced, word_of, behind_word, key_at, mark_at, number_at, value_at, path_at, many_while}
 

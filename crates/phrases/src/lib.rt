@@ -1,12 +1,14 @@
 // Calls in words.
+#![tactic(auto)]
+
 ghost use Rattle.std.specs.Prelude.{◌≡◌};
 ghost use Rattle.std.specs.Option.{option_map};
 ghost use Rattle.calls.specs.Reading.{behind, expect_read};
 ghost use Rattle.words.specs.Values.{Reads, act_of, acts_of, call_of};
 ghost use Rattle.phrases.specs.Acts.{version_at, numbered_at, session_at, make_at, put_at, drop_act_at, check_at, act_at, piece_at, at_brace, acts_at, braced_at, lone_at, call_at};
 
-use lent_bytes::counts::{Session, Version};
 use calls::types::Expected;
+use lent_bytes::counts::{Session, Version};
 use std::alloc::Global;
 use text::words::is;
 use words::reading::{read_key, read_mark, read_number, read_path, read_value, read_word};

@@ -1,5 +1,5 @@
 -- A call in words reads back as the call that it was written of.
-use Rattle.std.specs.Prelude.{◌≡◌, ℕ, ◌^◌, ◌<◌, ◌≤◌, List, [], length, Some}
+use Rattle.std.specs.Prelude.{◌≡◌, ℕ, ◌^◌, ◌<◌, List, [], length, Some}
 use Rattle.std.specs.List.{AllByRecursion as All}
 use Rattle.model.specs.Tree.{Name, Path, Expect, Any, Version, Act, Make, Put, Drop, Check, Call, Do, Look, Kids, Open, End}
 use Rattle.phrases.specs.Acts.{call_at}

@@ -1,4 +1,6 @@
 // That calls in words read back.
+#![tactic(auto)]
+
 ghost use Rattle.readback.specs.ReadsBack.{CallsReadBack};
 
 // A call in words reads back as the call that it was written of.

@@ -2,7 +2,7 @@
 use Rattle.std.specs.Prelude.{◌≡◌, ℕ, Bool, true, false, cond, List, ◌++◌, Some, None, codes, decimal, Option, ◌==◌}
 use Rattle.std.specs.Borrow.{Bor}
 use Rattle.model.specs.Tree.{Name, Path, Reply, No, Done, Entry', Names, Session}
-use Rattle.spelling.specs.Spelled.{many, chars_spelled, name_spelled, value_spelled}
+use Rattle.spelling.specs.Spelled.{many, chars_spelled, value_spelled}
 
 abbrev pub reason_spelled : ℕ → List ℕ
 reason_spelled k =

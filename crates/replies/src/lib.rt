@@ -1,4 +1,6 @@
 // Answers in words, from their bytes.
+#![tactic(auto)]
+
 ghost use Rattle.std.specs.Prelude.{◌≡◌, ◌++◌, IfOk, OnOk};
 ghost use Rattle.calls.specs.Format.{refused_at, done_at, entry_at, names_in, session_at, decode_reply};
 ghost use Rattle.replies.specs.Answers.{reason_spelled, refused_spelled, count_spelled, counts_spelled, entry_spelled, Spelled};

@@ -1,7 +1,7 @@
 -- From what each kind of call is answered to what one clerk answers and leaves. Assumes nothing.
-use Rattle.std.proofs.Common.{◌≡◌, ℕ, suc, ◌+◌, ◌*◌, ◌<◌, ◌≤◌, Bool, true, false, cond, not, ◌||◌, ◌⊎◌, List, [], ◌∷◌, length, take, IfSome, Some, None, Option, sym, refl, ap, ◌∙◌, subst, inl, inr, ⊎_elim, arith}
-use Rattle.std.proofs.lemmas.Bool.{cond_both, not-true, not_from_true, cases_Bool, or_parts, false≢true, not-false}
-use Rattle.model.specs.Tree.{Path, Entry, State, Act, Make, Put, Drop, Check, Call, Do, Look, Kids, Reply, No, does, path_ok, value_ok, weight_of}
+use Rattle.std.proofs.Common.{◌≡◌, ℕ, ◌*◌, ◌≤◌, Bool, true, false, cond, not, List, [], ◌∷◌, length, IfSome, Some, None, Option, sym, refl, ap, ◌∙◌, subst, arith}
+use Rattle.std.proofs.lemmas.Bool.{not-true, or_parts, not-false}
+use Rattle.model.specs.Tree.{Path, Entry, State, Act, Do, Look, Kids, Reply, No, does, path_ok, value_ok, weight_of}
 use Rattle.calls.specs.declared.types.ActKind.{ActKind}
 use Rattle.calls.specs.declared.types.ActKind.TheVariants as kind
 use Rattle.calls.specs.Reading.{act_from}
@@ -11,7 +11,7 @@ use Rattle.cells.specs.Drafts.{Drafts, drafting}
 use Rattle.cells.specs.Fits.{Fits}
 use Rattle.service.specs.declared.clerk.Answered.{Answered}
 use Rattle.service.specs.declared.writing.Written.{Written}
-use Rattle.service.specs.Service.{reply_to, next_to, at_once, act_in_range, in_range, say_to}
+use Rattle.service.specs.Service.{reply_to, next_to, at_once, act_in_range, say_to}
 use Rattle.service.specs.Answering.{Says, left_by, Wrote, Answers}
 use Rattle.service.proofs.Lawfulness.{at_once_lem, kept_at, Core, core_screened}
 

@@ -1,17 +1,17 @@
 -- The tree is a service that replicas can keep: what is kept of a write says its answer, looking leaves the tree, what is answered at once does not depend on the tree, and no answer is busy. Assumes nothing.
-use Rattle.std.proofs.Common.{◌≡◌, ℕ, zero, suc, ◌+◌, ◌<◌, ◌≤◌, Bool, true, false, cond, not, ◌&&◌, ◌||◌, eqb, ltb, ◌⊎◌, List, [], ◌∷◌, length, Some, None, Option, sym, refl, ap, ◌∙◌, subst, inl, inr, ⊎_elim, arith}
-use Rattle.std.proofs.lemmas.Bool.{cond_both, cond-true, cond-false, false≢true, eqb-true, not-false, cases_Bool, or_left}
+use Rattle.std.proofs.Common.{◌≡◌, ℕ, ◌≤◌, Bool, true, false, cond, not, ◌||◌, eqb, ltb, List, [], ◌∷◌, Some, None, Option, sym, refl, ap, ◌∙◌, subst, inl, inr, arith}
+use Rattle.std.proofs.lemmas.Bool.{cond_both, cond-true, cond-false, false≢true, eqb-true}
 use Rattle.std.proofs.lemmas.Bool.Decides.{nat_tests}
 use Rattle.std.specs.Option.{option_map}
 use Rattle.model.specs.Tree.{State, Act, Make, Put, Drop, Check, Call, Do, Look, Kids, Open, End, Reply, No, Done, Entry', Names, Session, Entry, does, core, one, told, find, at, there, path_ok, none, unless, acts, Step, Bad, stepped, goes, all_of, closed, values_in, kid_names, Out}
 use Rattle.calls.specs.Format.{encode_reply, decode_call}
 use Rattle.calls.specs.Screening.{Screen, NotBuilt, NoCall, LetIn, screened, decoded, front_not_built}
-use Rattle.tree.specs.Answers.{reason, made_by}
+use Rattle.tree.specs.Answers.{reason}
 use Rattle.tree.specs.declared.refusal.Refusal.{Refusal}
 use Rattle.tree.specs.declared.refusal.Refusal.TheVariants.{OutOfRange, NotThere, AlreadyThere, OtherVersion, HasKids, NoSession, UnderSession, UsedUp, Full}
 use Rattle.service.specs.declared.outcome.Outcome.{Outcome}
 use Rattle.service.specs.declared.outcome.Outcome.TheVariants as outcome
-use Rattle.service.specs.Service.{reply_to, next_to, act_in_range, in_range, at_once, looks, refusal_of, outcome_of, keep_to, done_by, say_to, screened_call, lines, calls}
+use Rattle.service.specs.Service.{reply_to, next_to, act_in_range, in_range, at_once, looks, refusal_of, outcome_of, keep_to, say_to, screened_call, lines, calls}
 use Rattle.service.proofs.Shapes.{one_shape, Shape}
 use Rattle.agreement.specs.Content.{Lawful}
 

@@ -1,12 +1,12 @@
 -- Of several that make one path while nobody drops it, one at most is told that it was made. Assumes nothing.
-use Rattle.std.proofs.Common.{◌≡◌, ℕ, suc, ◌+◌, ◌≤◌, Bool, true, false, cond, not, ◌&&◌, ◌||◌, eqb, ltb, leb, ◌⊎◌, List, [], ◌∷◌, ◌++◌, length, sym, refl, ap, ◌∙◌, subst, inl, inr, ⊎_elim, arith}
+use Rattle.std.proofs.Common.{◌≡◌, ℕ, ◌+◌, Bool, true, false, cond, not, ◌&&◌, ◌||◌, ltb, List, [], ◌∷◌, ◌++◌, sym, refl, ap, ◌∙◌, subst, ⊎_elim, arith}
 use mathlib.Core.List.Memᴰ
 use mathlib.Core.List.{Memᴰ}
-use Rattle.std.proofs.lemmas.Bool.{cond_both, cond-true, cond-false, cases_Bool, false≢true, not_from_false, eqb-true}
-use Rattle.model.specs.Tree.{Path, Entry, State, Expect, some, keep, change, at, there, same_path, above, counted, with_entries, true_name, put_in, Step, Bad, Good, unless, acts, weight, Going, Failed, Fine, stepped, goes, all_of, closed, Out, Act, Make, Put, Drop, Check, Call, Do, Look, Kids, Open, End, Reply, No, Done, does, core, one, values_in}
+use Rattle.std.proofs.lemmas.Bool.{cond_both, cases_Bool, false≢true, not_from_false}
+use Rattle.model.specs.Tree.{Path, Entry, State, Expect, some, keep, change, at, there, same_path, above, true_name, put_in, Step, Bad, Good, acts, weight, Failed, Fine, stepped, goes, all_of, closed, Out, Act, Make, Put, Drop, Check, Call, Do, Look, Kids, Open, End, Reply, No, Done, does, core, one, values_in}
 use Rattle.model.proofs.Members.{some_member, some_from, member_kept, some_changed}
 use Rattle.model.proofs.Same.{same_path_decides}
-use Rattle.model.proofs.Deeds.{not_refused, make_parts, with_new, new_entry, counting}
+use Rattle.model.proofs.Deeds.{not_refused, make_parts, new_entry, counting}
 use Rattle.model.proofs.Histories.{making}
 use Rattle.runs.specs.Order.{Deed, Line, none, more}
 use Rattle.promise.specs.Promise.{tree}

@@ -1,12 +1,12 @@
 -- The top is the path of no bytes; a `do` of the core has just one act, which is plain. Assumes nothing.
-use Rattle.std.proofs.Common.{◌≡◌, ℕ, suc, Bool, true, false, eqb, ◌⊎◌, List, [], ◌∷◌, ◌++◌, length, Some, None, sym, refl, ap, ◌∙◌, subst, inl, inr, ⊎_elim, arith, length-append}
+use Rattle.std.proofs.Common.{◌≡◌, ℕ, true, false, eqb, List, [], ◌∷◌, length, Some, None, sym, refl, ap, ◌∙◌, ⊎_elim, arith}
 use Rattle.std.proofs.lemmas.Bool.{ne_eqb, eq-eqb, cases_eq, false≢true}
-use Rattle.model.specs.Tree.{Path, none, Act, Make, Put, Drop, Check, one}
+use Rattle.model.specs.Tree.{Path, none, Act, one}
 use Rattle.lent_bytes.specs.Paths.{path_of, path_bytes, Spells}
 use Rattle.calls.specs.declared.types.ActKind.{ActKind}
 use Rattle.calls.specs.declared.types.ActKind.TheVariants as kind
 use Rattle.calls.specs.Format.{act_at}
-use Rattle.calls.specs.Reading.{act_of, act_from, acts_in, past}
+use Rattle.calls.specs.Reading.{act_from, acts_in, past}
 use Rattle.calls.proofs.Screens.{many_not_core, one_act, no_act}
 use Rattle.tree.specs.Answers.{numbered}
 

@@ -1,7 +1,7 @@
 -- What a call of one act can be answered: refused by a number from 1 to 9, or done with the path that it makes. Assumes nothing.
-use Rattle.std.proofs.Common.{◌≡◌, ℕ, ◌<◌, ◌≤◌, Bool, true, false, cond, not, ◌&&◌, ◌||◌, eqb, ltb, ◌⊎◌, List, [], ◌∷◌, ◌++◌, length, sym, refl, ap, ◌∙◌, subst, inl, inr, ⊎_elim, arith}
-use Rattle.std.proofs.lemmas.Bool.{cond_both, and_parts, not-true, false≢true}
-use Rattle.model.specs.Tree.{Path, State, Step, Bad, Good, unless, acts, weight, Going, Failed, Fine, stepped, goes, all_of, closed, Out, Act, Make, Put, Drop, Check, Call, Do, Reply, No, Done, does, one, values_in}
+use Rattle.std.proofs.Common.{◌≡◌, ℕ, ◌≤◌, Bool, true, false, ◌&&◌, ◌||◌, ltb, ◌⊎◌, List, [], ◌∷◌, refl, ap, subst, inl, inr, arith}
+use Rattle.std.proofs.lemmas.Bool.{cond_both, false≢true}
+use Rattle.model.specs.Tree.{Path, State, Step, Bad, Good, unless, acts, weight, Failed, Fine, stepped, goes, all_of, closed, Out, Act, Make, Put, Drop, Check, Do, Reply, No, Done, does, one, values_in}
 use Rattle.model.proofs.Deeds.{not_refused, make_parts}
 use Rattle.tree.specs.Answers.{made_by}
 

@@ -1,5 +1,5 @@
 -- The tree grows slowly: a call counts as one change at most, so as long as there were fewer than 2^56 changes calls may be done.
-use Rattle.std.proofs.Common.{◌≡◌, ℕ, ◌+◌, ◌*◌, ◌<◌, ◌≤◌, Bool, true, false, cond, List, refl, arith}
+use Rattle.std.proofs.Common.{ℕ, ◌+◌, ◌*◌, ◌≤◌, refl, arith}
 use Rattle.std.proofs.lemmas.Bool.{cond_both, lt-ltb}
 use Rattle.model.specs.Tree.{State, does, core}
 use Rattle.model.proofs.Going.{call_steps}

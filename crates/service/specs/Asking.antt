@@ -1,6 +1,6 @@
 -- What the code finds that a call asks: an answer at once, something to look at, or one act that writes. Assumes nothing.
-use Rattle.std.specs.Prelude.{◌≡◌, ℕ, Bool, true, false, List, [], ◌∷◌, Some, None, Option}
-use Rattle.model.specs.Tree.{Call, Do, Look, Kids, Reply, No}
+use Rattle.std.specs.Prelude.{◌≡◌, false, [], ◌∷◌, Some, None}
+use Rattle.model.specs.Tree.{Do, Look, Kids, No}
 use Rattle.lent_bytes.specs.Paths.{path_of, Spells}
 use Rattle.calls.specs.declared.types.Act.{Act}
 use Rattle.calls.specs.Reading.{act_of}
@@ -8,7 +8,7 @@ use Rattle.calls.specs.Screening.{Screen, LetIn}
 use Rattle.tree.specs.Answers.{numbered}
 use Rattle.service.specs.declared.asking.Asked.{Asked}
 use Rattle.service.specs.declared.asking.Asked.TheVariants as asked
-use Rattle.service.specs.Service.{at_once, looks}
+use Rattle.service.specs.Service.{at_once}
 
 -- an act that is done by its kind, path and value: the path is spelled by its part, and no number is put behind it
 pub record Plain (a : Act) : Type 0 where

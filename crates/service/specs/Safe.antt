@@ -36,9 +36,10 @@ Heals room = AnswersAndHealsWithin longest (code (calls room)) × AnswersAndHeal
 abbrev pub WholeWithin : ℕ → Type 0
 WholeWithin room = LikeARoom (tree room core) (code (calls room)) × BusyAtNine (tree room core) (code (calls room)) × OnlyWaiting (code (calls room)) × AnswersAndHealsWithin longest (code (calls room))
 
+-- the three of safety, of the program that writes its messages in this way
+abbrev pub SafeOver : (room : ℕ) → Writing (code (lines room)) (List ℕ) → Type 0
+SafeOver room e = LikeARoom (lines room).clerk (over_writing (code (lines room)) e) × BusyAtNine (lines room).clerk (over_writing (code (lines room)) e) × OnlyWaiting (over_writing (code (lines room)) e)
+
 -- the whole promise over messages as bytes, where what is said in runs of at most seven replicas is read again
 abbrev pub WholeOverBytes : ℕ → Type 0
-WholeOverBytes room =
-    (e : Writing (code (lines room)) (List ℕ)) → ReadsAgainOfSeven (code (lines room)) e →
-    LikeARoom (lines room).clerk (over_writing (code (lines room)) e) × BusyAtNine (lines room).clerk (over_writing (code (lines room)) e) × OnlyWaiting (over_writing (code (lines room)) e) ×
-    AnswersAndHealsWithin longest (over_writing (code (lines room)) e)
+WholeOverBytes room = (e : Writing (code (lines room)) (List ℕ)) → ReadsAgainOfSeven (code (lines room)) e → SafeOver room e × AnswersAndHealsWithin longest (over_writing (code (lines room)) e)

@@ -1,6 +1,6 @@
 -- The tree as a service that replicas keep together: what is answered at once, what only looks, what is kept of a write, and what is said from that; over calls, and over calls as bytes.
 -- Assumes nothing.
-use Rattle.std.specs.Prelude.{◌≡◌, ℕ, Bool, true, false, cond, not, ◌&&◌, ◌||◌, List, [], ◌∷◌, length, Some, None, Option, ◌==◌, nat_lt}
+use Rattle.std.specs.Prelude.{ℕ, Bool, true, false, cond, not, ◌&&◌, ◌||◌, List, [], ◌∷◌, length, Some, None, Option, ◌==◌, nat_lt}
 use Rattle.std.specs.Option.{option_map}
 use Rattle.model.specs.Tree.{Path, State, blank, none, last_name, path_ok, value_ok, Act, Make, Put, Drop, Check, Call, Do, Look, Kids, Open, End, Reply, No, Done, Entry', Names, Session, does, core}
 use Rattle.calls.specs.Format.{encode_reply}

@@ -3,7 +3,7 @@
 use Rattle.std.specs.Prelude.{◌≡◌, ℕ, ◌≤◌, false, ◌⊎◌, List, [], ◌∷◌, ◌++◌}
 use mathlib.Core.List.{Memᴰ}
 use Rattle.model.specs.Tree.{Path, State, Expect, Make, Drop, Call, Do, Reply, No, Done, core}
-use Rattle.runs.specs.Replicas.{Code, Scene, Seen, asked, gave, Goes}
+use Rattle.runs.specs.Replicas.{Scene, Seen, asked, gave, Goes}
 use Rattle.runs.specs.Order.{Deed, Line, Ordered, done_often, asked_often}
 use Rattle.promise.specs.Promise.{tree}
 use Rattle.agreement.specs.Machine.{Msg, Mind, code}

@@ -9,9 +9,9 @@ ghost use Rattle.service.specs.Service.{say_to};
 ghost use Rattle.service.specs.Answering.{Says};
 
 use crate::outcome::Outcome;
-use lent_bytes::writing::{append_bytes, append_u32, append_u64};
 use calls::types::{Act, ActKind};
 use cells::held::Tree;
+use lent_bytes::writing::{append_bytes, append_u32, append_u64};
 use tree::looking::{Seen, kids, look};
 
 // The answer to what is refused.

@@ -8,11 +8,11 @@ ghost use Rattle.calls.specs.Screening.{screened, LetIn};
 ghost use Rattle.service.specs.Service.{act_in_range};
 ghost use Rattle.service.specs.Asking.{AskedAs, Plain};
 
-use lent_bytes::parts::cut_at;
-use lent_bytes::paths::check_path;
 use calls::reading::read_act;
 use calls::screening::{Screened, screen};
 use calls::types::{Act, ActKind, Call};
+use lent_bytes::parts::cut_at;
+use lent_bytes::paths::check_path;
 
 // What a call asks: it is refused at once by a number, whatever the tree is; it looks at a path, or asks for the names under one; or it writes by one act.
 #[derive(Clone, Copy)]

@@ -1,2 +1,4 @@
 // Calls in words.
+#![tactic(auto)]
+
 pub mod wording;

@@ -4,8 +4,8 @@ ghost use Rattle.calls.specs.Reading.{expect_of};
 ghost use Rattle.words.specs.Values.{name_of, path_of, act_of, call_of};
 ghost use Rattle.spelling.specs.Spelled.{plain, char_spelled, chars_spelled, many, value_spelled, name_spelled, path_spelled, expect_spelled, numbered_spelled, session_spelled, both_spelled, act_spelled, piece_spelled, braced_spelled, do_spelled, call_spelled};
 
-use lent_bytes::counts::Session;
 use calls::types::Expected;
+use lent_bytes::counts::Session;
 use std::alloc::{AllocError, Global};
 use text::decimal::push_decimal;
 use text::hex::hex_digit;

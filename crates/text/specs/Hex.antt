@@ -1,5 +1,5 @@
 -- Bytes as hexadecimal digits: lower case is written, both cases are read.
-use Rattle.std.specs.Prelude.{◌≡◌, ℕ, suc, ◌+◌, ◌-◌, ◌*◌, ◌/◌, ◌%◌, cond, ◌&&◌, List, [], ◌∷◌, ◌++◌, Some, None, Ok, Err, vec_items, Option, Result, Vec, nat_le, nat_lt}
+use Rattle.std.specs.Prelude.{◌≡◌, ℕ, ◌+◌, ◌-◌, ◌*◌, ◌/◌, ◌%◌, cond, ◌&&◌, List, [], ◌∷◌, ◌++◌, Some, None, Ok, Err, vec_items, Option, Result, Vec, nat_le, nat_lt}
 use Rattle.std.specs.declared.alloc.Global.{Global}
 use Rattle.text.specs.declared.hex.HexFault.{HexFault}
 use Rattle.text.specs.declared.hex.HexFault.TheVariants.{Odd, Digit, Memory}

@@ -1,4 +1,6 @@
 // What the programs read and write, between bytes and words.
+#![tactic(auto)]
+
 ghost use Rattle.text.specs.ReadsBack.{HexReadsBack, DecimalReadsBack, FrameReadsBack};
 
 pub mod command;

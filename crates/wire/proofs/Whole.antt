@@ -1,11 +1,6 @@
 -- Whatever is said in a run is read again: its numbers fit, and the tree that it carries can be sent, since every state of a run is one that calls lead to. So the whole promise holds over these bytes.
-use Rattle.std.proofs.Common.{◌≡◌, ℕ, suc, ◌<◌, ◌≤◌, true, List, Some, sym, refl, ap, ◌∙◌, subst}
-use mathlib.Core.List.{Memᴰ}
-use Rattle.model.specs.Tree.{State}
-use Rattle.runs.specs.Replicas.{Letter, Scene, Seen, there, Goes}
-use Rattle.agreement.specs.Content.{Service}
-use Rattle.agreement.specs.Machine.{Msg, Prepare, Promise, Propose, Alive, Accepted, Join, Forward, Mind, code}
-use Rattle.agreement.specs.Said.{FitWord}
+use Rattle.std.proofs.Common.{◌≡◌, ℕ, Some, sym, subst}
+use Rattle.agreement.specs.Machine.{Msg, Prepare, Promise, Propose, Alive, Accepted, Join, Forward}
 use Rattle.agreement.proofs.Runs.{run, said_fits}
 use Rattle.agreement.proofs.Slowly.{Follow, LowWord}
 use Rattle.agreement.proofs.Bounds.{bounded}
@@ -37,4 +32,4 @@ said_is_read room all n few es s g i m lt up l d =
     subst (λ (z : ℕ). word_at room z (word_bytes room l.word) ≡ Some l.word) (sym k) (message_again room all l.word (said_fits (lines room) all n few es s g l d) (carried room n l.word ((bounded (sending room) all g).letters l d)))
 
 pub whole_in_bytes : WholeInBytes
-whole_in_bytes room = whole_over_bytes room (format room) (said_is_read room)
+whole_in_bytes room = let (safe, heals) = whole_over_bytes room (format room) (said_is_read room) in (safe.0, safe.1, safe.2, heals)

@@ -2,8 +2,8 @@
 ghost use Rattle.std.specs.Prelude.{◌≡◌};
 ghost use Rattle.words.specs.declared.types.Fault.TheVariants.{Memory};
 
-use lent_bytes::counts::Session;
 use calls::types::Expected;
+use lent_bytes::counts::Session;
 use std::alloc::{AllocError, AllocFailed};
 use std::fmt;
 

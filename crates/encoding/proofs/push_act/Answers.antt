@@ -1,5 +1,5 @@
 -- Each kind of act, part by part.
-use Rattle.std.proofs.Common.{ℕ, ◌+◌, List, [], ◌∷◌, ◌++◌, vec_items, sym, ap, ◌∙◌}
+use Rattle.std.proofs.Common.{ℕ, List, [], ◌∷◌, ◌++◌, vec_items, sym, ap, ◌∙◌}
 use Rattle.lent_bytes.specs.Numbers.{be8}
 use Rattle.calls.specs.Format.{path_written, value_written, flag_written, expect_written, act_written}
 use Rattle.calls.specs.Reading.{expect_of}

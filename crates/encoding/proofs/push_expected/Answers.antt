@@ -1,5 +1,5 @@
 -- A 1 and the version's bytes.
-use Rattle.std.proofs.Common.{ℕ, ◌+◌, List, [], ◌∷◌, ◌++◌, vec_items, sym, ap, ◌∙◌}
+use Rattle.std.proofs.Common.{ℕ, List, [], ◌∷◌, ◌++◌, vec_items, sym, ap, ◌∙◌}
 use Rattle.lent_bytes.specs.Numbers.{be8}
 use Rattle.calls.specs.Format.{expect_written}
 use Rattle.calls.specs.Reading.{expect_of}

@@ -1,5 +1,5 @@
 -- A length and the name's bytes.
-use Rattle.std.proofs.Common.{ℕ, ◌+◌, List, [], ◌∷◌, ◌++◌, vec_items, ap, ◌∙◌}
+use Rattle.std.proofs.Common.{ℕ, List, [], ◌∷◌, ◌++◌, vec_items, ap, ◌∙◌}
 use Rattle.text.proofs.Appends.{two_parts}
 use Rattle.encoding.proofs.push_name.Goals as goal
 

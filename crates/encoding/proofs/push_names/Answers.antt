@@ -1,5 +1,5 @@
 -- Each turn writes one name.
-use Rattle.std.proofs.Common.{ℕ, ◌+◌, List, ◌++◌, vec_items, sym, ap, ◌∙◌}
+use Rattle.std.proofs.Common.{ℕ, List, ◌++◌, vec_items, sym, ap, ◌∙◌}
 use Rattle.std.proofs.lemmas.List.{append-nil}
 use Rattle.lent_bytes.specs.Paths.{name_bytes, path_bytes}
 use Rattle.words.specs.Values.{name_of}

@@ -1,5 +1,5 @@
 -- A flag and the session's bytes.
-use Rattle.std.proofs.Common.{ℕ, ◌+◌, List, [], ◌∷◌, ◌++◌, vec_items, ap, ◌∙◌}
+use Rattle.std.proofs.Common.{ℕ, List, [], ◌∷◌, ◌++◌, vec_items, ap, ◌∙◌}
 use Rattle.lent_bytes.specs.Numbers.{be8}
 use Rattle.text.proofs.Appends.{two_parts}
 use Rattle.encoding.proofs.push_owner.Goals as goal

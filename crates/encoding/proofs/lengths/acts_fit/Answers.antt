@@ -1,5 +1,5 @@
 -- Each turn tests one of them.
-use Rattle.std.proofs.Common.{ℕ, ◌+◌, Bool, ◌&&◌, map, drop, sym, ap, ◌∙◌}
+use Rattle.std.proofs.Common.{◌+◌, Bool, ◌&&◌, map, drop, sym, ap, ◌∙◌}
 use Rattle.std.proofs.lemmas.Bool.{and_left}
 use Rattle.model.specs.Tree.{every}
 use Rattle.words.specs.Values.{act_of}

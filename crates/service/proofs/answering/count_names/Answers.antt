@@ -1,5 +1,5 @@
-use Rattle.std.proofs.Common.{arith, rules}
-use Rattle.service.proofs.Saying.{count_first, count_next, count_end}
+use Rattle.std.proofs.Common.{rules}
+use Rattle.service.proofs.Saying.{count_next, count_end}
 use Rattle.service.proofs.answering.count_names.Goals as goal
 
 pub overflow_add-count : goal.overflow_add-count

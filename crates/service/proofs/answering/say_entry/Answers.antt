@@ -1,4 +1,4 @@
-use Rattle.std.proofs.Common.{◌≡◌, ℕ, ◌+◌, ◌≤◌, List, [], ◌∷◌, ◌++◌, length, sym, refl, ap, ◌∙◌, append_assoc, arith}
+use Rattle.std.proofs.Common.{◌≡◌, ℕ, ◌+◌, List, ◌∷◌, ◌++◌, length, sym, ap, append_assoc, arith}
 use Rattle.lent_bytes.specs.Numbers.{be4, be8}
 use Rattle.lent_bytes.proofs.Writes.{and_then}
 use Rattle.model.specs.Tree.{Entry'}

@@ -1,4 +1,4 @@
-use Rattle.std.proofs.Common.{◌≡◌, ℕ, List, [], ◌∷◌, ◌++◌, length, sym, refl, ap, ◌∙◌, append-nil, arith, length-append}
+use Rattle.std.proofs.Common.{[], ◌∷◌, sym, ◌∙◌, append-nil, arith}
 use Rattle.lent_bytes.specs.Paths.{path_of, path_bytes}
 use Rattle.lent_bytes.proofs.Writes.{and_then}
 use Rattle.model.specs.Tree.{Done}

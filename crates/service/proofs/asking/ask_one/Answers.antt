@@ -1,4 +1,4 @@
-use Rattle.std.proofs.Common.{◌≡◌, List, [], ◌∷◌, sym, ap, ◌∙◌, subst}
+use Rattle.std.proofs.Common.{List, sym, ap, ◌∙◌, subst}
 use Rattle.model.specs.Tree.{Act, Do, one}
 use Rattle.lent_bytes.specs.Paths.{path_of}
 use Rattle.calls.specs.Reading.{act_of}

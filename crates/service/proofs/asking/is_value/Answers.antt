@@ -1,4 +1,4 @@
-use Rattle.std.proofs.Common.{◌≡◌, ℕ, ◌<◌, Bool, true, false, ◌&&◌, ltb, leb, length, sym, refl, arith}
+use Rattle.std.proofs.Common.{ℕ, ◌<◌, ltb, leb, length, sym, arith}
 use Rattle.std.proofs.ByRecursion.{All-from_get_or}
 use Rattle.std.proofs.lemmas.Bool.{and_left, and_from, lt-leb, le-leb}
 use Rattle.model.specs.Tree.{every}

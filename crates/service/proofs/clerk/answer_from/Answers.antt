@@ -1,12 +1,11 @@
-use Rattle.std.proofs.Common.{◌≡◌, ℕ, List, [], ◌∷◌, length, None, Option, sym, ap, ◌∙◌, subst, arith}
-use Rattle.model.specs.Tree.{Do}
+use Rattle.std.proofs.Common.{◌≡◌, None, subst, arith}
 use Rattle.lent_bytes.specs.Paths.{path_of}
 use Rattle.calls.specs.Reading.{act_of}
-use Rattle.calls.specs.Screening.{Screen, LetIn}
-use Rattle.cells.specs.Layout.{state_of, entries_of}
+use Rattle.calls.specs.Screening.{Screen}
+use Rattle.cells.specs.Layout.{entries_of}
 use Rattle.cells.proofs.Cells.{length_entries}
 use Rattle.service.specs.Service.{at_once}
-use Rattle.service.proofs.Clerking.{weight_count, range_path, asked_range, answers_as, answers_at_once, answers_look, answers_kids, answers_write}
+use Rattle.service.proofs.Clerking.{weight_count, range_path, asked_range, answers_at_once, answers_look, answers_kids, answers_write}
 use Rattle.service.proofs.clerk.answer_from.Goals as goal
 
 pub say_kids-requires : goal.say_kids-requires

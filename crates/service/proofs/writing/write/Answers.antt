@@ -1,5 +1,5 @@
-use Rattle.std.proofs.Common.{◌≡◌, sym, refl, ap, ◌∙◌}
-use Rattle.model.specs.Tree.{Reply, Out}
+use Rattle.std.proofs.Common.{ap, ◌∙◌}
+use Rattle.model.specs.Tree.{Out}
 use Rattle.service.specs.Service.{outcome_of}
 use Rattle.service.proofs.Lawfulness.{refusal_back}
 use Rattle.service.proofs.writing.write.Goals as goal

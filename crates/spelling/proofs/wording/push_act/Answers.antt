@@ -1,5 +1,5 @@
 -- Each kind of act, part by part.
-use Rattle.std.proofs.Common.{ℕ, ◌+◌, List, ◌++◌, vec_items, codes, sym, ap, ◌∙◌}
+use Rattle.std.proofs.Common.{ℕ, List, ◌++◌, vec_items, codes, sym, ap, ◌∙◌}
 use Rattle.calls.specs.Reading.{expect_of}
 use Rattle.words.specs.Values.{path_of, act_of}
 use Rattle.spelling.specs.Spelled.{path_spelled, expect_spelled, numbered_spelled, session_spelled, both_spelled, act_spelled}

@@ -1,5 +1,5 @@
 -- Each kind of call.
-use Rattle.std.proofs.Common.{◌+◌, ◌++◌, map, vec_items, codes, decimal, sym, ap, ◌∙◌}
+use Rattle.std.proofs.Common.{◌++◌, map, vec_items, codes, decimal, sym, ap, ◌∙◌}
 use Rattle.words.specs.Values.{path_of, act_of, call_of}
 use Rattle.spelling.specs.Spelled.{path_spelled, do_spelled, call_spelled}
 use Rattle.text.proofs.Appends.{two_parts}

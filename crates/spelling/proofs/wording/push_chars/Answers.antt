@@ -1,5 +1,5 @@
 -- Each turn writes one character.
-use Rattle.std.proofs.Common.{ℕ, ◌+◌, List, ◌++◌, get_or, vec_items, sym, ap, ◌∙◌}
+use Rattle.std.proofs.Common.{ℕ, List, ◌++◌, get_or, vec_items, sym, ap, ◌∙◌}
 use Rattle.std.proofs.lemmas.List.{append-nil}
 use Rattle.spelling.specs.Spelled.{char_spelled, many}
 use Rattle.spelling.proofs.Loops.{chars_more, chars_all}

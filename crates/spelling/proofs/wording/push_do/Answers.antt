@@ -1,5 +1,5 @@
 -- One act alone, or acts in braces.
-use Rattle.std.proofs.Common.{ℕ, ◌+◌, List, ◌++◌, vec_items, sym, ap, ◌∙◌}
+use Rattle.std.proofs.Common.{ℕ, List, ◌++◌, vec_items, sym, ap, ◌∙◌}
 use Rattle.words.specs.Values.{act_of}
 use Rattle.spelling.proofs.Shapes.{lone_act, many_acts}
 use Rattle.spelling.proofs.wording.push_do.Goals as goal

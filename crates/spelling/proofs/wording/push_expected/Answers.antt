@@ -1,5 +1,5 @@
 -- A word and the version.
-use Rattle.std.proofs.Common.{◌+◌, ◌++◌, vec_items, codes, decimal, sym, ap, ◌∙◌}
+use Rattle.std.proofs.Common.{◌++◌, vec_items, codes, decimal, sym, ap, ◌∙◌}
 use Rattle.calls.specs.Reading.{expect_of}
 use Rattle.spelling.specs.Spelled.{expect_spelled}
 use Rattle.text.proofs.Appends.{two_parts}

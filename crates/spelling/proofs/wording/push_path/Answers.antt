@@ -1,5 +1,5 @@
 -- A / alone, or the names.
-use Rattle.std.proofs.Common.{ℕ, ◌+◌, List, ◌++◌, map, vec_items, vec_len, sym, ap, ◌∙◌}
+use Rattle.std.proofs.Common.{ℕ, List, ◌++◌, map, vec_items, vec_len, sym, ap, ◌∙◌}
 use Rattle.std.proofs.lemmas.Bool.{eqb-true, eqb-false}
 use Rattle.words.specs.Values.{name_of}
 use Rattle.spelling.specs.Spelled.{many, name_spelled}

@@ -1,5 +1,5 @@
 -- Each turn writes one act.
-use Rattle.std.proofs.Common.{ℕ, ◌+◌, List, ◌++◌, vec_items, sym, ap, ◌∙◌}
+use Rattle.std.proofs.Common.{ℕ, List, ◌++◌, vec_items, sym, ap, ◌∙◌}
 use Rattle.std.proofs.lemmas.List.{append-nil}
 use Rattle.words.specs.Values.{act_of}
 use Rattle.spelling.specs.Spelled.{many, piece_spelled}

@@ -1,5 +1,5 @@
 -- A word and the session, unless it is 0.
-use Rattle.std.proofs.Common.{ℕ, ◌+◌, eqb, List, [], ◌++◌, vec_items, codes, decimal, sym, ap, ◌∙◌}
+use Rattle.std.proofs.Common.{ℕ, eqb, List, [], ◌++◌, vec_items, codes, decimal, sym, ap, ◌∙◌}
 use Rattle.std.proofs.lemmas.Bool.{cond-false, ne_eqb}
 use Rattle.text.proofs.Appends.{two_parts}
 use Rattle.spelling.proofs.wording.push_session.Goals as goal

@@ -1,5 +1,5 @@
 -- A / and the name.
-use Rattle.std.proofs.Common.{ℕ, ◌+◌, false, List, ◌++◌, vec_items, codes, ap, ◌∙◌}
+use Rattle.std.proofs.Common.{ℕ, false, List, ◌++◌, vec_items, codes, ap, ◌∙◌}
 use Rattle.words.specs.Values.{name_of}
 use Rattle.spelling.specs.Spelled.{chars_spelled}
 use Rattle.text.proofs.Appends.{two_parts}
