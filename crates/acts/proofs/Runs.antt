@@ -1,6 +1,6 @@
 -- A loop over acts: what is left to do from here is what there was to do. Assumes nothing.
 use Rattle.std.proofs.Common.{◌≡◌, ℕ, suc, ◌+◌, ◌-◌, ◌<◌, ◌≤◌, false, cond, ltb, List, [], ◌∷◌, ◌++◌, Some, None, sym, refl, ap, ◌∙◌, subst, ⊎_elim, append_assoc, append-nil, add-one, arith}
-use Rattle.std.specs.List.{AllByRecursion as All}
+use Rattle.std.specs.List.{AllByRecursion}
 use Rattle.std.proofs.lemmas.Bool.{cases_Bool, cond-true, cond-false, cases_lt, lt-ltb, le-ltb}
 use Rattle.model.specs.Tree.{Path, State, Step, Bad, Good, Act, Going, Failed, Fine, acts, all_of, goes, stepped, weight, onward}
 use Rattle.calls.specs.declared.types.ActKind.{ActKind}
@@ -71,11 +71,11 @@ pub record Acting (room : ℕ) (all : List Act) (s : State) (count n : ℕ) (byt
   pub reads : Reads (count - n) bytes left
   pub same : all_of room all (Fine 0 [] s) ≡ all_of room left (Fine n paths now)
   pub made : paths ++ made_all left ≡ made_all all
-  pub plain : All Plain left
+  pub plain : AllByRecursion Plain left
   pub held : Held room n s now
   pub stands : u ≡ at_count (cond (ltb n count) s.changes (s.changes + 1)) now
 
-pub acting_first : (room count : ℕ) (s : State) (bytes : List ℕ) → past act_at count bytes ≡ Some [] → All Plain (acts_in count bytes) → Fits room s → 0 < count → Acting room (acts_in count bytes) s count 0 bytes s
+pub acting_first : (room count : ℕ) (s : State) (bytes : List ℕ) → past act_at count bytes ≡ Some [] → AllByRecursion Plain (acts_in count bytes) → Fits room s → 0 < count → Acting room (acts_in count bytes) s count 0 bytes s
 acting_first room count s bytes e plain f some =
     let all : count ≡ count - 0 = omega arith in
     record {
@@ -117,8 +117,8 @@ module _ (room : ℕ) (all : List Act) (s : State) (count n : ℕ) (bytes : List
       next : (as' : List Act) × (w.left ≡ a ∷ as') × Reads (count - (n + 1)) rest' as'
       next = reads_step (count - (n + 1)) bytes w.left on a rest' e
 
-      plains : Plain a × All Plain next.0
-      plains = subst (λ (l : List Act). All Plain l) next.1 w.plain
+      plains : Plain a × AllByRecursion Plain next.0
+      plains = subst (λ (l : List Act). AllByRecursion Plain l) next.1 w.plain
 
       pub acting_plain : Plain a
       acting_plain = plains.0

@@ -1,6 +1,6 @@
 // Several acts, written into two lent buffers in turn, while the tree that stands is left as it is.
 ghost use Rattle.std.specs.Prelude.{◌≡◌, ◌+◌, ◌<◌, ◌≤◌, false, ◌||◌, [], length, IfOk, Some, nat_lt};
-ghost use Rattle.std.specs.List.{AllByRecursion as All};
+ghost use Rattle.std.specs.List.{AllByRecursion};
 ghost use Rattle.model.specs.Tree.{acts, does, values_in, Do};
 ghost use Rattle.lent_bytes.specs.Paths.{Spells};
 ghost use Rattle.calls.specs.Format.{act_at};
@@ -143,7 +143,7 @@ fn run_acts(
     requires left { Suits room left.old lefts.old }
     requires right { Suits room right.old rights.old }
     requires acts { past act_at count acts.now ≡ Some [] }
-    requires plain { All Plain (acts_in count acts.now) }
+    requires plain { AllByRecursion Plain (acts_in count acts.now) }
     requires some { 0 < count }
     requires few { count ≤ 64 }
     ensures ran { Ran room (acts_in count acts.now) result tree.entry.bytes.now tree.entry.places.now left.new lefts.new right.new rights.new }
@@ -196,7 +196,7 @@ pub fn do_acts(
     requires left { Suits room left.old lefts.old }
     requires right { Suits room right.old rights.old }
     requires acts { past act_at count acts.now ≡ Some [] }
-    requires plain { All Plain (acts_in count acts.now) }
+    requires plain { AllByRecursion Plain (acts_in count acts.now) }
     ensures answer { ran_of (made_all (acts_in count acts.now)) result tree.entry.bytes.now tree.entry.places.now left.new lefts.new right.new rights.new ≡ does room (Do (acts_in count acts.now)) (state_of tree.entry.bytes.now tree.entry.places.now) }
     ensures stands { IfOk result (λ s. StandsIn s tree.entry.bytes.now tree.entry.places.now left.new lefts.new right.new rights.new) }
     ensures fits { IfOk result (λ s. Fits room (standing s tree.entry.bytes.now tree.entry.places.now left.new lefts.new right.new rights.new)) }

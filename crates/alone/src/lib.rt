@@ -1,4 +1,6 @@
 // One replica alone: its tree lies in one buffer, and the next is written into another, which then is the tree.
+#![tactic(auto)]
+
 ghost use Rattle.std.specs.Prelude.{◌≡◌, ◌≤◌, min, true, length, take, IfOk};
 ghost use Rattle.model.specs.Tree.{blank};
 ghost use Rattle.content.specs.Content.{is_tree};

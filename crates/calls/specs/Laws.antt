@@ -1,7 +1,7 @@
 -- Reading undoes writing, and writing undoes reading: so a call has one run of bytes, and a run of bytes at most one call; likewise answers. Each is a type; a proof of the type is the theorem.
 -- Assumes nothing.
 use Rattle.std.specs.Prelude.{◌≡◌, ℕ, ◌<◌, Bool, true, ◌&&◌, List, length, Some, nat_lt}
-use Rattle.std.specs.List.{AllByRecursion as All}
+use Rattle.std.specs.List.{AllByRecursion}
 use Rattle.model.specs.Tree.{Expect, Any, Version, Act, Make, Put, Drop, Check, Call, Do, Look, Kids, Open, End, Reply, No, Done, Entry', Names, Session, every}
 use Rattle.calls.specs.Format.{encode_call, decode_call, encode_reply, decode_reply}
 
@@ -43,7 +43,7 @@ abbrev pub RepliesAreReadAgain : Type 0
 RepliesAreReadAgain = (r : Reply) → fits_reply r ≡ true → decode_reply (encode_reply r) ≡ Some r
 
 abbrev pub Bytes : List ℕ → Type 0
-Bytes bs = All (λ b. b < 256) bs
+Bytes bs = AllByRecursion (λ b. b < 256) bs
 
 abbrev pub CallsAreWrittenAgain : Type 0
 CallsAreWrittenAgain = (bs : List ℕ) (c : Call) → Bytes bs → decode_call bs ≡ Some c → encode_call c ≡ bs

@@ -1,6 +1,6 @@
 -- Memory that holds a tree still does with one cell more behind it; and how the places of its cells lie. Assumes nothing.
 use Rattle.std.proofs.Common.{◌≡◌, ℕ, zero, suc, ◌+◌, ◌-◌, ◌*◌, ◌<◌, ◌≤◌, List, [], ◌∷◌, ◌++◌, length, get_or, take, drop, sym, refl, ap, ◌∙◌, subst, ⊎_elim, add-zero, arith, length-append}
-use Rattle.std.specs.List.{between, AllByRecursion as All}
+use Rattle.std.specs.List.{between, AllByRecursion}
 use Rattle.std.proofs.lemmas.Slice.{between_is}
 use Rattle.std.proofs.lemmas.List.{take-append-le, drop_at, take_all, get_or_append_left, get_or_at}
 use Rattle.std.proofs.lemmas.Bool.{cases_lt}
@@ -56,7 +56,7 @@ holds_push m c ps h g =
           (λ lt. let a = old i lt in omega (arith, h.within i lt))
           (λ ge. let b = get_or_at ps x [] 0 i (omega arith) in omega arith)
           (cases_lt i (length ps));
-      good = subst (λ cs. All Formed cs) (sym (cut_push m c ps h.some h.ends h.within)) (All-push Formed (cut m ps) c h.good g);
+      good = subst (λ cs. AllByRecursion Formed cs) (sym (cut_push m c ps h.some h.ends h.within)) (All-push Formed (cut m ps) c h.good g);
     }
 
 pub prelude_push : (m c ps : List ℕ) → Holds m ps → prelude_of (m ++ c) (ps ++ (length m + length c) ∷ []) ≡ prelude_of m ps

@@ -1,6 +1,6 @@
 -- A tree takes no more bytes than it weighs, behind its prelude. Assumes nothing.
 use Rattle.std.proofs.Common.{◌≡◌, ℕ, suc, ◌+◌, ◌<◌, ◌≤◌, List, [], ◌∷◌, length, get_or, sym, ap, subst, arith, length-drop}
-use Rattle.std.specs.List.{between, AllByRecursion as All}
+use Rattle.std.specs.List.{between, AllByRecursion}
 use Rattle.std.proofs.lemmas.List.Edits.{length-between}
 use Rattle.model.specs.Tree.{weight_of}
 use Rattle.lent_bytes.specs.Numbers.{be32}
@@ -15,7 +15,7 @@ cell_long c f =
     let same = ap length f.spells in
     omega (arith, f.long, path_long (path_of (path_part c)) f.names, length-drop (48 + be32 c 4) c)
 
-weighs : (mem ps : List ℕ) → 0 < length ps → ((i : ℕ) → i + 1 < length ps → get_or ps i 0 ≤ get_or ps (i + 1) 0) → ((i : ℕ) → i < length ps → get_or ps i 0 ≤ length mem) → All Formed (cut mem ps) →
+weighs : (mem ps : List ℕ) → 0 < length ps → ((i : ℕ) → i + 1 < length ps → get_or ps i 0 ≤ get_or ps (i + 1) 0) → ((i : ℕ) → i < length ps → get_or ps i 0 ≤ length mem) → AllByRecursion Formed (cut mem ps) →
     last_of ps ≤ get_or ps 0 0 + weight_of (entries_of mem ps)
 unfolding cut last_of weight_of
 weighs mem [] s r w g = absurd (omega arith)

@@ -1,6 +1,6 @@
 -- What of a state makes the lent memory suffice, and its counts never wrap. Assumes nothing.
 use Rattle.std.specs.Prelude.{◌≡◌, ℕ, ◌+◌, ◌*◌, ◌/◌, ◌<◌, ◌≤◌, Bool, true, ◌&&◌, List, [], ◌∷◌, length, nat_le, nat_lt}
-use Rattle.std.specs.List.{AllByRecursion as All}
+use Rattle.std.specs.List.{AllByRecursion}
 use Rattle.model.specs.Tree.{Entry, State, weight_of}
 
 -- each number above the one before, from `low` on, and none above `last`
@@ -16,7 +16,7 @@ pub record CountsTo (limit : ℕ) (e : Entry) : Type 0 where
 -- the counts of a state are
 pub record Below (limit : ℕ) (s : State) : Type 0 where
   pub top : s.top ≤ limit
-  pub entries : All (CountsTo limit) s.entries
+  pub entries : AllByRecursion (CountsTo limit) s.entries
 
 -- A state that fits a room. A call has at most 64 acts, and each raises a count by one at most: so counts are at most 64 times the changes, and none wraps before 2^56 changes.
 pub record Fits (room : ℕ) (s : State) : Type 0 where

@@ -1,6 +1,6 @@
 -- How a tree lies in memory: what stands before the entries, then their cells one behind the other, and the places where they begin. Assumes nothing.
 use Rattle.std.specs.Prelude.{◌≡◌, ℕ, zero, suc, ◌+◌, ◌*◌, ◌<◌, ◌≤◌, true, List, [], ◌∷◌, ◌++◌, map, length, take, drop, slice_index, slice_index_or}
-use Rattle.std.specs.List.{between, AllByRecursion as All}
+use Rattle.std.specs.List.{between, AllByRecursion}
 use Rattle.model.specs.Tree.{Entry, State, path_ok}
 use Rattle.lent_bytes.specs.Numbers.{be32, be64, be4, be8}
 use Rattle.lent_bytes.specs.Paths.{path_of, Spells}
@@ -67,7 +67,7 @@ pub record Holds (mem ps : List ℕ) : Type 0 where
   pub ends : last_of ps ≡ length mem
   pub rises : (i : ℕ) → i + 1 < length ps → slice_index ps i ≤ slice_index ps (i + 1)
   pub within : (i : ℕ) → i < length ps → slice_index ps i ≤ length mem
-  pub good : All Formed (cut mem ps)
+  pub good : AllByRecursion Formed (cut mem ps)
 
 -- so many numbers of eight bytes, from a place on
 unfoldable pub numbers_at : ℕ → List ℕ → ℕ → List ℕ

@@ -1,6 +1,6 @@
 -- What put, drop and check do, by what was found. Assumes nothing.
 use Rattle.std.proofs.Common.{◌≡◌, ℕ, ◌+◌, ◌<◌, ◌≤◌, Bool, true, false, not, ◌||◌, ltb, leb, List, [], length, get_or, refl, ap, ◌∙◌}
-use Rattle.std.specs.List.{AllByRecursion as All}
+use Rattle.std.specs.List.{AllByRecursion}
 use Rattle.std.proofs.lemmas.Bool.{and_from, and_left, or_right, le-leb, lt-leb, not_from_false}
 use Rattle.model.specs.Tree.{Path, Entry, State, Expect, Step, Bad, Good, Put, Drop, Check, acts, unless, at, change, keep, has_kids, put_in, with_entries, path_ok, value_ok, every}
 use Rattle.lent_bytes.proofs.PathBytes.{every_all}
@@ -12,7 +12,7 @@ use Rattle.cells.proofs.Firsts.{change_first}
 use Rattle.tree.specs.Steps.{sought}
 
 -- bytes are in range where they are few enough
-pub value_ok_lem : (v : List ℕ) → length v ≤ 65536 → All (λ b. b < 256) v → value_ok v ≡ true
+pub value_ok_lem : (v : List ℕ) → length v ≤ 65536 → AllByRecursion (λ b. b < 256) v → value_ok v ≡ true
 value_ok_lem v h k = and_from (leb (length v) 65536) (every (λ (b : ℕ). ltb b 256) v) (le-leb (length v) 65536 h) (every_all v k)
 
 or_false : (a b : Bool) → b ≡ false → (a || b) ≡ a

@@ -1,6 +1,6 @@
 -- The computed test is the same as being a tree that fits. Assumes nothing.
 use Rattle.std.proofs.Common.{◌≡◌, ℕ, zero, suc, ◌+◌, ◌*◌, ◌<◌, ◌≤◌, Bool, leb, List, [], ◌∷◌, length, get_or, drop, Decides, refl, add-one, arith}
-use Rattle.std.specs.List.{AllByRecursion as All}
+use Rattle.std.specs.List.{AllByRecursion}
 use Rattle.std.proofs.lemmas.Bool.{and_parts, and_from, leb-true, le-leb}
 use Rattle.std.proofs.lemmas.Bool.Decides.{Decides-and, Decides-eqb, Decides-like}
 use Rattle.model.specs.Tree.{Entry, State, every, weight_of}
@@ -12,7 +12,7 @@ use Rattle.cells.specs.Fits.{CountsTo, Fits}
 use Rattle.scan.specs.Scans.{cell_long, walked, places_of, meaning}
 use Rattle.content.specs.Content.{is_cell, is_held, counts_fit, does_fit, is_tree, TreeDecided}
 
-every_decides : {A : Type 0} (p : A → Bool) (P : A → Type 0) → ((x : A) → Decides (p x) (P x)) → (xs : List A) → Decides (every p xs) (All P xs)
+every_decides : {A : Type 0} (p : A → Bool) (P : A → Type 0) → ((x : A) → Decides (p x) (P x)) → (xs : List A) → Decides (every p xs) (AllByRecursion P xs)
 unfolding every
 every_decides p P each [] = (λ _. tt, λ _. refl)
 every_decides p P each (x ∷ xs) = (

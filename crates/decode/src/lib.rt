@@ -1,4 +1,6 @@
 // Messages of replicas, read where they lie: what stands at the front of bytes, and the bytes behind it.
+#![tactic(auto)]
+
 ghost use Rattle.std.specs.Prelude.{◌≡◌};
 ghost use Rattle.std.specs.Option.{option_map};
 ghost use Rattle.calls.specs.Reading.{behind};

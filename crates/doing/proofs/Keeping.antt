@@ -1,6 +1,6 @@
 -- Every call keeps what makes memory suffice: weights within the room, counts within their bounds, sessions in order. Assumes nothing.
 use Rattle.std.proofs.Common.{◌≡◌, ℕ, suc, ◌+◌, ◌*◌, ◌≤◌, Bool, true, false, not, ◌||◌, eqb, ltb, leb, List, [], ◌∷◌, ◌++◌, length, sym, refl, ap, ◌∙◌, subst, arith, length-append}
-use Rattle.std.specs.List.{AllByRecursion as All}
+use Rattle.std.specs.List.{AllByRecursion}
 use Rattle.std.proofs.ByRecursion.{All-push, All-weaker}
 use Rattle.std.proofs.lemmas.Bool.{cond_both, and_parts, and_from, ltb-true, lt-ltb, leb-true, leb-false, le-leb, or_parts, ltb-false}
 use Rattle.model.specs.Tree as Tree
@@ -13,16 +13,16 @@ use Rattle.tree.proofs.Weighs.{within_room, keep_weighs}
 
 -- LISTS
 module _ {A : Type 0} (P Q : A → Type 0) (f : A → Bool) where
-  pub all_change : (g : A → A) → ((x : A) → P x → Q x) → ((x : A) → P x → Q (g x)) → (xs : List A) → All P xs → All Q (change f g xs)
+  pub all_change : (g : A → A) → ((x : A) → P x → Q x) → ((x : A) → P x → Q (g x)) → (xs : List A) → AllByRecursion P xs → AllByRecursion Q (change f g xs)
   unfolding change
   all_change g weak each [] h = tt
   all_change g weak each (x ∷ xs) h =
-      cond_both (f x) (g x ∷ xs) (x ∷ change f g xs) (All Q) (λ _. (each x h.0, All-weaker P Q weak xs h.1)) (λ _. (weak x h.0, all_change g weak each xs h.1))
+      cond_both (f x) (g x ∷ xs) (x ∷ change f g xs) (AllByRecursion Q) (λ _. (each x h.0, All-weaker P Q weak xs h.1)) (λ _. (weak x h.0, all_change g weak each xs h.1))
 
-  pub all_keep : (xs : List A) → All P xs → All P (keep f xs)
+  pub all_keep : (xs : List A) → AllByRecursion P xs → AllByRecursion P (keep f xs)
   unfolding keep
   all_keep [] h = tt
-  all_keep (x ∷ xs) h = cond_both (f x) (x ∷ keep f xs) (keep f xs) (All P) (λ _. (h.0, all_keep xs h.1)) (λ _. all_keep xs h.1)
+  all_keep (x ∷ xs) h = cond_both (f x) (x ∷ keep f xs) (keep f xs) (AllByRecursion P) (λ _. (h.0, all_keep xs h.1)) (λ _. all_keep xs h.1)
 
 length_keep : {A : Type 0} (f : A → Bool) (xs : List A) → length (keep f xs) ≤ length xs
 unfolding keep
@@ -181,7 +181,7 @@ fits_closed room m s (Failed n k) calm f l h = f
 fits_closed room m s (Fine n ps t) calm f l h = fits_onward room n s t calm f (omega (arith, h.0)) h.1
 
 -- counts with more changes
-counts_more : (s t : State) (m : ℕ) → s.changes ≤ m → t.top ≡ s.top → All (CountsTo (64 * s.changes)) t.entries → Below (64 * s.changes) s → Below (64 * m) t
+counts_more : (s t : State) (m : ℕ) → s.changes ≤ m → t.top ≡ s.top → AllByRecursion (CountsTo (64 * s.changes)) t.entries → Below (64 * s.changes) s → Below (64 * m) t
 counts_more s t m l e all b = record {
   top = omega (arith, b.top, e);
   entries = All-weaker (CountsTo (64 * s.changes)) (CountsTo (64 * m)) (λ x c. record { version = omega (arith, c.version); kids = omega (arith, c.kids) }) t.entries all;

@@ -1,4 +1,6 @@
 // Messages of replicas, written into lent memory: each thing behind what the buffer has so far.
+#![tactic(auto)]
+
 ghost use Rattle.std.specs.Prelude.{◌≡◌, ◌+◌, ◌≤◌, [], ◌∷◌, ◌++◌, length};
 ghost use Rattle.lent_bytes.specs.Numbers.{be8};
 ghost use Rattle.lent_bytes.specs.Writing.{Added};

@@ -1,4 +1,6 @@
 // The program of one replica: it reads lines, and writes what the replica says to them.
+#![tactic(auto)]
+
 use alone::Alone;
 use calls::answers::refused;
 use calls::screening::{Screened, screen};

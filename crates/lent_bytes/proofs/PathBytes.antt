@@ -1,6 +1,6 @@
 -- Paths as bytes. Assumes nothing.
 use Rattle.std.proofs.Common.{◌≡◌, ℕ, zero, suc, ◌*◌, ◌<◌, ◌≤◌, Bool, true, not, ◌&&◌, ltb, leb, List, [], ◌∷◌, ◌++◌, length, take, drop, sym, refl, ap, ◌∙◌, append_assoc, arith, length-append}
-use Rattle.std.specs.List.{AllByRecursion as All}
+use Rattle.std.specs.List.{AllByRecursion}
 use Rattle.std.proofs.lemmas.List.{take_at, drop_at}
 use Rattle.std.proofs.lemmas.Bool.{and_parts, and_from, lt-ltb, leb-true}
 use Rattle.model.specs.Tree.{Path, every, none, name_ok, path_ok}
@@ -47,7 +47,7 @@ names_front (n ∷ ns) (m ∷ ms) rest e =
     let found = names_front ns ms rest more in
     (found.0, (λ i. same i ∷ found.1 i), found.2)
 
-pub every_all : (xs : List ℕ) → All (λ b. b < 256) xs → every (λ (b : ℕ). ltb b 256) xs ≡ true
+pub every_all : (xs : List ℕ) → AllByRecursion (λ b. b < 256) xs → every (λ (b : ℕ). ltb b 256) xs ≡ true
 unfolding every
 every_all [] h = refl
 every_all (x ∷ xs) h = and_from (ltb x 256) (every (λ (b : ℕ). ltb b 256) xs) (lt-ltb x 256 h.0) (every_all xs h.1)

@@ -1,6 +1,6 @@
 -- A walk over the names of a path. Assumes nothing.
 use Rattle.std.proofs.Common.{◌≡◌, ℕ, suc, ◌+◌, ◌-◌, ◌<◌, ◌≤◌, true, false, not, ◌&&◌, ltb, leb, List, [], ◌∷◌, ◌++◌, length, get_or, take, drop, Decides, sym, refl, ap, ◌∙◌, append_assoc, append-nil, arith, length-append, length-drop}
-use Rattle.std.specs.List.{AllByRecursion as All, between}
+use Rattle.std.specs.List.{AllByRecursion, between}
 use Rattle.std.proofs.lemmas.List.{take_at, take_all, drop_more, length-take-le, take-append-drop, length_push}
 use Rattle.std.proofs.ByRecursion.{All-take, All-drop}
 use Rattle.std.proofs.lemmas.List.Edits.{split_between, length-between}
@@ -43,7 +43,7 @@ unfolding path_bytes every
 fronts_none path = record { names = []; front = refl; many = refl; fine = refl; inside = omega arith; few = omega arith }
 
 module _ (path : List ℕ) (at count : ℕ) (f : Fronts path at count) where
-  pub fronts_more : All (λ b. b < 256) path → (n : ℕ) → n ≡ get_or path at 0 → 0 < n → n ≤ 64 → n < length path - at → count < 16 → Fronts path (at + (1 + n)) (count + 1)
+  pub fronts_more : AllByRecursion (λ b. b < 256) path → (n : ℕ) → n ≡ get_or path at 0 → 0 < n → n ≤ 64 → n < length path - at → count < 16 → Fronts path (at + (1 + n)) (count + 1)
   unfolding path_bytes
   fronts_more small n is some small64 fits room =
       let name = take n (drop (at + 1) path) in

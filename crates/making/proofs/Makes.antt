@@ -1,7 +1,7 @@
 -- What a making does, by what was found. Assumes nothing.
 use Rattle.std.proofs.Common.{◌≡◌, ℕ, ◌+◌, ◌<◌, Bool, true, false, not, ◌&&◌, ◌||◌, eqb, ltb, leb, List, [], ◌∷◌, ◌++◌, map, length, get_or, take, drop, sym, refl, ap, ◌∙◌, ⊎_elim, arith, length-append, length-drop}
 use Rattle.std.proofs.lemmas.List.{length-take-le}
-use Rattle.std.specs.List.{AllByRecursion as All}
+use Rattle.std.specs.List.{AllByRecursion}
 use Rattle.std.proofs.lemmas.Bool.{and_left, or_from, or_parts, lt-leb, not_from_false, not_from_true, cond-true, cond-false, cases_Bool}
 use Rattle.model.specs.Tree as Tree
 use Rattle.model.specs.Tree.{Path, Entry, State, Step, Bad, Make, acts, makes, unless, at, change, find, some, every, none, same_path, path_ok, value_ok, owner_of, weight, weight_of}
@@ -28,7 +28,7 @@ unfolding none same_path
 names_not_none [] h = absurd (let z : ◌≡◌ {A = ℕ} 0 1 = cc in omega arith)
 names_not_none (n ∷ ns) h = refl
 
-not_at_top : (cs : List (List ℕ)) → All Formed cs → some (at []) (map entry_of cs) ≡ false
+not_at_top : (cs : List (List ℕ)) → AllByRecursion Formed cs → some (at []) (map entry_of cs) ≡ false
 unfolding some entry_of
 not_at_top [] h = refl
 not_at_top (c ∷ cs) h = or_from (same_path [] (path_of (path_part c))) (some (at []) (map entry_of cs)) (names_not_none (path_of (path_part c)) h.0.names) (not_at_top cs h.1)

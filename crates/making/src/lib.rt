@@ -2,7 +2,7 @@
 #![tactic(auto)]
 
 ghost use Rattle.std.specs.Prelude.{◌≡◌, ◌+◌, ◌<◌, ◌≤◌, true, false, not, ◌&&◌, [], ◌∷◌, length, is_some, IfSome, IfOk, ◌==◌, nat_eq, slice_index_or};
-ghost use Rattle.std.specs.List.{AllByRecursion as All};
+ghost use Rattle.std.specs.List.{AllByRecursion};
 ghost use Rattle.model.specs.Tree.{above, acts, at, none, path_ok, some, Make};
 ghost use Rattle.lent_bytes.specs.Paths.{path_of, Spells};
 ghost use Rattle.cells.specs.Layout.{entries_of, entry_from, entry_of, Holds, prelude_of, prelude_with, state_of};
@@ -88,7 +88,7 @@ fn check_free(
 fn count_kid(tree: Tree, i: usize, changes: Count, out: &mut [u8], places: &mut [u32]) -> Size
     requires holds { Holds tree.bytes.now tree.places.now }
     requires within { i + 1 < length tree.places.now }
-    requires counts { All (CountsTo 18446744073709551614) (entries_of tree.bytes.now tree.places.now) }
+    requires counts { AllByRecursion (CountsTo 18446744073709551614) (entries_of tree.bytes.now tree.places.now) }
     requires bytes { length tree.bytes.now ≤ length out.old }
     requires small { length out.old < 4294967296 }
     requires words { length tree.places.now ≤ length places.old }
@@ -135,7 +135,7 @@ fn write_made(
     requires above { Found (at (above (path_of path.now))) (entries_of tree.bytes.now tree.places.now) parent }
     requires top { is_some parent ≡ not (none (above (path_of path.now))) }
     requires within { IfSome parent (λ i. i + 1 < length tree.places.now) }
-    requires counts { All (CountsTo 18446744073709551614) (entries_of tree.bytes.now tree.places.now) }
+    requires counts { AllByRecursion (CountsTo 18446744073709551614) (entries_of tree.bytes.now tree.places.now) }
     requires tops { (state_of tree.bytes.now tree.places.now).top ≤ 18446744073709551614 }
     requires bytes { length tree.bytes.now + 48 + length path.now + length value.now ≤ length out.old }
     requires small { length out.old < 4294967296 }

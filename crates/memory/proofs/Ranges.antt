@@ -1,13 +1,13 @@
 -- A call that is not answered at once is in range, so it is short: its path has at most 1,040 bytes, and its value 65,536. Assumes nothing.
-use Rattle.std.proofs.Common.{◌≡◌, ℕ, ◌+◌, ◌≤◌, Bool, true, false, cond, not, ◌||◌, List, [], ◌∷◌, ◌++◌, length, Some, None, Option, sym, refl, ap, subst, ⊎_elim, arith, length-append}
-use Rattle.std.proofs.lemmas.Bool.{not-true, not-false, or_parts, and_parts, leb-true, cases_Bool}
-use Rattle.model.specs.Tree.{Path, Expect, Any, Version, Act, Make, Put, Drop, Check, Call, Do, Look, Kids, Open, End, Reply, No, core, one, none, path_ok, value_ok, every, last_name}
+use Rattle.std.proofs.Common.{◌≡◌, ℕ, ◌≤◌, Bool, true, false, cond, not, ◌||◌, List, [], ◌∷◌, ◌++◌, length, Some, None, Option, refl, ap, arith, length-append}
+use Rattle.std.proofs.lemmas.Bool.{not-true, not-false, or_parts, and_parts, leb-true}
+use Rattle.model.specs.Tree.{Path, Expect, Any, Version, Act, Make, Put, Drop, Check, Call, Do, Look, Kids, Open, End, Reply, No, core, one, none, path_ok, value_ok}
 use Rattle.lent_bytes.specs.Paths.{path_bytes}
 use Rattle.lent_bytes.proofs.PathBytes.{path_long}
 use Rattle.lent_bytes.proofs.Rounds.{length_be4, length_be8}
 use Rattle.lent_bytes.specs.Numbers.{be4, be8}
 use Rattle.calls.specs.Format.{encode_call, decode_call, act_written, many_written, path_written, value_written, expect_written, flag_written}
-use Rattle.calls.specs.Screening.{Screen, NotBuilt, NoCall, LetIn, decoded, screened, front_not_built}
+use Rattle.calls.specs.Screening.{NotBuilt, LetIn, decoded, front_not_built}
 use Rattle.calls.proofs.WrittenAgain.{calls_back}
 use Rattle.service.specs.Service.{at_once, in_range, act_in_range}
 use Rattle.memory.specs.Range.{WaitingIsShort}

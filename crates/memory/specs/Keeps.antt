@@ -1,13 +1,12 @@
 -- What lent memory stands for: the tree that stands, the calls that wait and those that were forwarded, as the machine's mind has them. Assumes nothing.
-use Rattle.std.specs.Prelude.{◌≡◌, ℕ, zero, suc, ◌+◌, ◌*◌, ◌%◌, ◌<◌, ◌≤◌, Bool, true, false, cond, List, [], ◌∷◌, ◌++◌, length, take, drop, Some, None, Option, slice_index}
+use Rattle.std.specs.Prelude.{◌≡◌, ℕ, zero, suc, ◌+◌, ◌*◌, ◌%◌, ◌<◌, ◌≤◌, cond, List, [], ◌∷◌, ◌++◌, length, take, drop, Some, None, Option, slice_index}
 use Rattle.std.specs.Option.{option_map}
 use Rattle.model.specs.Tree.{State, blank}
 use Rattle.cells.specs.declared.draft.Size.{Size}
 use Rattle.cells.specs.Layout.{Holds, state_of}
 use Rattle.cells.specs.Drafts.{Drafts, drafting}
 use Rattle.cells.specs.Fits.{Fits, Suits}
-use Rattle.scan.specs.Scans.{meaning}
-use Rattle.content.specs.Content.{is_tree, tree_at}
+use Rattle.content.specs.Content.{tree_at}
 use Rattle.service.specs.Service.{lines}
 use Rattle.agreement.specs.Content.{seven}
 use Rattle.agreement.specs.Machine.{Waiting, Forwarded}

@@ -1,7 +1,7 @@
 -- What is written of acts and calls reads back.
 use Rattle.std.proofs.Common.{◌≡◌, ℕ, ◌+◌, ◌-◌, ◌*◌, ◌^◌, ◌<◌, Bool, true, false, eqb, List, [], ◌∷◌, ◌++◌, length, Some, codes, decimal, Option, sym, refl, ap, ◌∙◌, append_assoc, arith, rules}
 use Rattle.std.specs.Result.{result_ok}
-use Rattle.std.specs.List.{AllByRecursion as All}
+use Rattle.std.specs.List.{AllByRecursion}
 use Rattle.std.specs.Str.{all_ascii_digits}
 use Rattle.std.specs.Char.{is_ascii_digit}
 use Rattle.std.proofs.lemmas.Bool.Decides.{nat_tests}
@@ -160,7 +160,7 @@ piece_back a t g =
 piece_goes : (a : Act) (t : List ℕ) → at_brace (piece_spelled a ++ t) ≡ false
 piece_goes a t = ap (λ (xs : List ℕ). at_brace (32 ∷ xs)) (append_assoc (act_spelled a) (59 ∷ []) t) ∙ (act_spaced a (59 ∷ t)).1
 
-acts_back : (as' : List Act) (rest : List ℕ) → All ActFits as' → at_brace rest ≡ true → acts_at (many piece_spelled as' ++ rest) ≡ Some (as', rest)
+acts_back : (as' : List Act) (rest : List ℕ) → AllByRecursion ActFits as' → at_brace rest ≡ true → acts_at (many piece_spelled as' ++ rest) ≡ Some (as', rest)
 acts_back as' rest g o =
     many_back at_brace piece_at piece_spelled (λ (t : List ℕ). Unit {0}) ActFits (λ a t h u. piece_goes a t) (λ a t h u. piece_back a t h) (λ a t h u. tt) as' rest
     (length (many piece_spelled as' ++ rest))
@@ -175,7 +175,7 @@ closing a = and_then (mark_at 125 a.1) (λ t. Some (a.0, t))
 abbrev doing : List Act × List ℕ → Option (Call × List ℕ)
 doing a = Some (Do a.0, a.1)
 
-braced_back : (as' : List Act) → All ActFits as' → call_at (braced_spelled as') ≡ Some (Do as', [])
+braced_back : (as' : List Act) → AllByRecursion ActFits as' → call_at (braced_spelled as') ≡ Some (Do as', [])
 unfolding unspaced word_of behind_word
 braced_back as' g = ap (λ (o : Option (List Act × List ℕ)). and_then (and_then o closing) doing) (acts_back as' (codes " }") g refl)
 

@@ -1,6 +1,6 @@
 -- What is written of characters, names, paths, values and numbers reads back, whatever follows that ends them.
 use Rattle.std.proofs.Common.{◌≡◌, ℕ, zero, suc, ◌+◌, ◌*◌, ◌/◌, ◌%◌, ◌<◌, ◌≤◌, Bool, true, false, ◌||◌, eqb, List, [], ◌∷◌, ◌++◌, length, Some, Option, sym, refl, ap, ◌∙◌, subst, append_assoc, arith}
-use Rattle.std.specs.List.{AllByRecursion as All}
+use Rattle.std.specs.List.{AllByRecursion}
 use Rattle.std.proofs.lemmas.Bool.Decides.{nat_tests}
 use Rattle.std.proofs.lemmas.List.{length-append}
 use Rattle.std.proofs.lemmas.Bool.{cond-true, cond-false, cond_both, eqb-true}
@@ -42,12 +42,12 @@ module _ {A : Type 0} (over : List ℕ → Bool) (one : List ℕ → Option (A �
     (goes : (x : A) (t : List ℕ) → Fits x → Tail t → over (spell x ++ t) ≡ false)
     (reads : (x : A) (t : List ℕ) → Fits x → Tail t → one (spell x ++ t) ≡ Some (x, t))
     (keeps : (x : A) (t : List ℕ) → Fits x → Tail t → Tail (spell x ++ t)) where
-  tails : (xs : List A) (rest : List ℕ) → All Fits xs → Tail rest → Tail (many spell xs ++ rest)
+  tails : (xs : List A) (rest : List ℕ) → AllByRecursion Fits xs → Tail rest → Tail (many spell xs ++ rest)
   unfolding many
   tails [] rest g t = t
   tails (x ∷ xs) rest g t = subst Tail (sym (append_assoc (spell x) (many spell xs) rest)) (keeps x (many spell xs ++ rest) g.0 (tails xs rest g.1 t))
 
-  pub many_back : (xs : List A) (rest : List ℕ) (k : ℕ) → All Fits xs → Tail rest → over rest ≡ true → length xs ≤ k → many_while over one k (many spell xs ++ rest) ≡ Some (xs, rest)
+  pub many_back : (xs : List A) (rest : List ℕ) (k : ℕ) → AllByRecursion Fits xs → Tail rest → over rest ≡ true → length xs ≤ k → many_while over one k (many spell xs ++ rest) ≡ Some (xs, rest)
   unfolding many many_while
   many_back [] rest zero g t o h = refl
   many_back [] rest (suc k) g t o h = cond-true (over rest) _ _ o

@@ -1,4 +1,6 @@
 // Plays a script on houses in memory, and prints each answer with the call that it answers.
+#![tactic(auto)]
+
 mod play;
 mod refusals;
 mod scene;

@@ -1,6 +1,6 @@
 -- Places that hold bytes are those that the bytes have: so bytes have one meaning. Assumes nothing.
 use Rattle.std.proofs.Common.{◌≡◌, ℕ, zero, suc, ◌+◌, ◌-◌, ◌<◌, ◌≤◌, List, [], ◌∷◌, length, get_or, drop, sym, refl, ap, ◌∙◌, subst, arith, length-drop}
-use Rattle.std.specs.List.{AllByRecursion as All}
+use Rattle.std.specs.List.{AllByRecursion}
 use Rattle.std.proofs.lemmas.List.{drop_all, drop-drop}
 use Rattle.cells.specs.Layout.{Formed, Holds, cut, last_of, state_of}
 use Rattle.cells.specs.Fits.{Fits}
@@ -17,7 +17,7 @@ unfolding walked
 walked_step k at [] s = absurd (omega arith)
 walked_step k at (b ∷ bs) s = refl
 
-walked_is : (mem ps : List ℕ) (k : ℕ) → 0 < length ps → last_of ps ≡ length mem → ((i : ℕ) → i + 1 < length ps → get_or ps i 0 ≤ get_or ps (i + 1) 0) → ((i : ℕ) → i < length ps → get_or ps i 0 ≤ length mem) → All Formed (cut mem ps) →
+walked_is : (mem ps : List ℕ) (k : ℕ) → 0 < length ps → last_of ps ≡ length mem → ((i : ℕ) → i + 1 < length ps → get_or ps i 0 ≤ get_or ps (i + 1) 0) → ((i : ℕ) → i < length ps → get_or ps i 0 ≤ length mem) → AllByRecursion Formed (cut mem ps) →
     length mem ≤ k + get_or ps 0 0 → ps ≡ walked k (get_or ps 0 0) (drop (get_or ps 0 0) mem)
 unfolding cut last_of
 walked_is mem [] k s e r w g far = absurd (omega arith)

@@ -1,5 +1,5 @@
 -- Letters under way: which are on a link.
-use Rattle.std.specs.Prelude.{◌≡◌, ℕ, Bool, true, false, not, ◌&&◌, List, map, vec_items, ◌==◌}
+use Rattle.std.specs.Prelude.{◌≡◌, ℕ, Bool, true, not, ◌&&◌, List, map, vec_items, ◌==◌}
 use Rattle.script.specs.declared.lines.Link.{Link}
 use Rattle.script.specs.declared.lines.Link.TheVariants.{All, One}
 use Rattle.script.specs.declared.network.Letter.{Letter}

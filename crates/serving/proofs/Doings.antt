@@ -1,12 +1,11 @@
 -- A call that was done beside the tree that stands: what it leaves stands, and all else is as it was. Assumes nothing.
 use Rattle.std.proofs.Common.{◌≡◌, ℕ, List, IfSome, Some, None, Option, sym, refl, ap, ◌∙◌, subst}
-use Rattle.model.specs.Tree.{State, Reply, No}
+use Rattle.model.specs.Tree.{State, No}
 use Rattle.cells.specs.declared.draft.Size.{Size}
 use Rattle.calls.specs.Screening.{screened}
-use Rattle.service.specs.declared.outcome.Outcome.{Outcome}
 use Rattle.service.specs.declared.outcome.Outcome.TheVariants as outcome
 use Rattle.service.specs.declared.writing.Written.{Written}
-use Rattle.service.specs.Service.{reply_to, next_to, keep_to, at_once, refusal_of, outcome_of}
+use Rattle.service.specs.Service.{at_once, refusal_of, outcome_of}
 use Rattle.service.specs.Answering.{left_by}
 use Rattle.service.proofs.Lawfulness.{at_once_lem}
 use Rattle.memory.specs.declared.lent.Memory.{Memory}

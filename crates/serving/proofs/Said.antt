@@ -8,7 +8,7 @@ use Rattle.model.specs.Tree.{State, Reply}
 use Rattle.calls.specs.Format.{encode_reply}
 use Rattle.calls.specs.Screening.{Screen, screened}
 use Rattle.service.specs.declared.outcome.Outcome.{Outcome}
-use Rattle.service.specs.Service.{reply_to, looks, say_to, lines}
+use Rattle.service.specs.Service.{reply_to, looks, say_to}
 use Rattle.service.specs.Answering.{Says}
 use Rattle.serving.specs.Replying.{reply_from, SaidAs}
 

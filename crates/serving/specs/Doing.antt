@@ -9,7 +9,7 @@ use Rattle.service.specs.Answering.{leaves}
 use Rattle.memory.specs.declared.lent.Memory.{Memory}
 use Rattle.memory.specs.declared.lent.Kept.{Kept}
 use Rattle.memory.specs.Keeps.{state_in, Stands, Turned, Unmoved}
-use Rattle.serving.specs.declared.doing.Did.{Did}
+use Rattle.serving.specs.declared.calling.Did.{Did}
 
 -- what is kept of it, and what it leaves, are what the service says; a tree that was written fits the room
 pub record WroteCall (room : ℕ) (call : List ℕ) (s : State) (w : Written) (out ps : List ℕ) : Type 0 where

@@ -1,5 +1,5 @@
 -- The answer to a call that waits, as the machine makes it, written behind the answers of this turn. Assumes nothing.
-use Rattle.std.specs.Prelude.{◌≡◌, ℕ, ◌+◌, ◌<◌, ◌≤◌, cond, List, length, take, Some, None, Option, slice_index_or}
+use Rattle.std.specs.Prelude.{◌≡◌, ℕ, ◌+◌, ◌≤◌, cond, List, length, take, Some, None, Option, slice_index_or}
 use Rattle.std.specs.List.{between}
 use Rattle.model.specs.Tree.{State}
 use Rattle.service.specs.declared.outcome.Outcome.{Outcome}

@@ -1,6 +1,6 @@
 -- The tree without a session. Assumes nothing.
 use Rattle.std.proofs.Common.{◌≡◌, ℕ, ◌+◌, ◌*◌, ◌<◌, ◌≤◌, true, false, not, eqb, ltb, List, [], ◌∷◌, ◌++◌, length, get_or, drop, sym, refl, ap, ◌∙◌, arith, length-append}
-use Rattle.std.specs.List.{AllByRecursion as All, between}
+use Rattle.std.specs.List.{AllByRecursion, between}
 use Rattle.std.proofs.ByRecursion.{All-weaker}
 use Rattle.std.proofs.lemmas.List.Edits.{between_more, between_none}
 use Rattle.std.proofs.lemmas.List.{get_or-drop}
@@ -15,7 +15,7 @@ use Rattle.sessions.specs.Ending.{ended, others, numbers_bytes}
 use Rattle.sessions.proofs.Others.{numbers_written, length_bytes}
 
 -- numbers that rise are at most the last
-rising_low : (low : ℕ) (xs : List ℕ) (last : ℕ) → rising low xs last ≡ true → (low ≤ last) × All (λ x. x ≤ last) xs
+rising_low : (low : ℕ) (xs : List ℕ) (last : ℕ) → rising low xs last ≡ true → (low ≤ last) × AllByRecursion (λ x. x ≤ last) xs
 unfolding rising
 rising_low low [] last h = (leb-true low last h, tt)
 rising_low low (x ∷ xs) last h =
@@ -23,12 +23,12 @@ rising_low low (x ∷ xs) last h =
     let more = rising_low x xs last both.1 in
     (omega (arith, ltb-true low x both.0, more.0), (more.0, more.1))
 
-all_others : (k : ℕ) (P : ℕ → Type 0) (xs : List ℕ) → All P xs → All P (others k xs)
+all_others : (k : ℕ) (P : ℕ → Type 0) (xs : List ℕ) → AllByRecursion P xs → AllByRecursion P (others k xs)
 unfolding keep
 all_others k P [] h = tt
-all_others k P (x ∷ xs) h = cond_both (not (eqb k x)) (x ∷ others k xs) (others k xs) (All P) (λ _. (h.0, all_others k P xs h.1)) (λ _. all_others k P xs h.1)
+all_others k P (x ∷ xs) h = cond_both (not (eqb k x)) (x ∷ others k xs) (others k xs) (AllByRecursion P) (λ _. (h.0, all_others k P xs h.1)) (λ _. all_others k P xs h.1)
 
-pub others_low : (k : ℕ) (xs : List ℕ) (last : ℕ) → rising 0 xs last ≡ true → last < 18446744073709551616 → All (λ x. x < 18446744073709551616) (others k xs)
+pub others_low : (k : ℕ) (xs : List ℕ) (last : ℕ) → rising 0 xs last ≡ true → last < 18446744073709551616 → AllByRecursion (λ x. x < 18446744073709551616) (others k xs)
 others_low k xs last h l = all_others k (λ x. x < 18446744073709551616) xs (All-weaker (λ x. x ≤ last) (λ x. x < 18446744073709551616) (λ x m. omega arith) xs (rising_low 0 xs last h).1)
 
 module _ (c t x : ℕ) (ys : List ℕ) (lc : c < 18446744073709551616) (lt : t < 18446744073709551616) (lx : x < 18446744073709551616) (lk : length ys < 4294967296) where
@@ -47,12 +47,12 @@ module _ (c t x : ℕ) (ys : List ℕ) (lc : c < 18446744073709551616) (lt : t <
   pub ended_begins : length (ended c t x ys) ≡ begins_at (ended c t x ys)
   ended_begins = omega (arith, ended_long, count_is)
 
-  sessions_are : All (λ n. n < 18446744073709551616) ys → sessions_in (ended c t x ys) ≡ ys
+  sessions_are : AllByRecursion (λ n. n < 18446744073709551616) ys → sessions_in (ended c t x ys) ≡ ys
   sessions_are all =
       let p = ended c t x ys in
       ap (λ (n : ℕ). numbers_at n p 28) count_is ∙ numbers_same (length ys) p (numbers_bytes ys) 28 0 (λ m. sym (get_or-drop 28 p m 0) ∙ (λ i. get_or (rest_is i) m 0) ∙ ap (λ (n : ℕ). get_or (numbers_bytes ys) n 0) (omega arith)) ∙ numbers_written ys all
 
-  pub ended_state : (es : List Entry) → All (λ n. n < 18446744073709551616) ys → state_from (ended c t x ys) es ≡ record { changes = c; top = t; entries = es; sessions = ys; last_session = x }
+  pub ended_state : (es : List Entry) → AllByRecursion (λ n. n < 18446744073709551616) ys → state_from (ended c t x ys) es ≡ record { changes = c; top = t; entries = es; sessions = ys; last_session = x }
   unfolding be4 be8 be64
   ended_state es all =
       let one = round8 c lc in

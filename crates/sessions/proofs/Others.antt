@@ -2,7 +2,7 @@
 use Rattle.std.proofs.Common.{◌≡◌, ℕ, suc, ◌+◌, ◌-◌, ◌*◌, ◌<◌, not, eqb, List, [], ◌∷◌, ◌++◌, length, get_or, take, sym, refl, ap, ◌∙◌, append_assoc, append-nil, arith, length-append}
 use native.Mathlib.Nat.{sub-zero}
 use Rattle.std.proofs.lemmas.Bool.{eq-eqb, ne_eqb, cond-true, cond-false}
-use Rattle.std.specs.List.{AllByRecursion as All}
+use Rattle.std.specs.List.{AllByRecursion}
 use Rattle.std.proofs.lemmas.List.{get_or-append-add}
 use Rattle.model.specs.Tree.{keep}
 use Rattle.lent_bytes.specs.Numbers.{be64, be8}
@@ -44,7 +44,7 @@ unfolding keep
 passed_all k all done n bs i e p = p ∙ ap (λ (l : List ℕ). done ++ others k l) (numbers_none n bs i e) ∙ append-nil done
 
 -- numbers that were written are read again
-pub numbers_written : (xs : List ℕ) → All (λ x. x < 18446744073709551616) xs → numbers_at (length xs) (numbers_bytes xs) 0 ≡ xs
+pub numbers_written : (xs : List ℕ) → AllByRecursion (λ x. x < 18446744073709551616) xs → numbers_at (length xs) (numbers_bytes xs) 0 ≡ xs
 unfolding numbers_at numbers_bytes
 numbers_written [] h = refl
 numbers_written (x ∷ xs) h =

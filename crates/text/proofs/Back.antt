@@ -1,6 +1,6 @@
 -- What is written reads back: hexadecimal digits by induction on the bytes, decimal digits by induction on the number, a frame by its arithmetic.
 use Rattle.std.proofs.Common.{◌≡◌, ℕ, ◌+◌, ◌-◌, ◌*◌, ◌/◌, ◌%◌, ◌^◌, ◌<◌, ◌≤◌, List, [], ◌∷◌, ◌++◌, length, Some, Ok, decimal, Option, sym, refl, ap, ◌∙◌, append_assoc, arith}
-use Rattle.std.specs.List.{AllByRecursion as All}
+use Rattle.std.specs.List.{AllByRecursion}
 use Rattle.std.proofs.lemmas.Bool.Decides.{nat_tests}
 use Rattle.std.proofs.lemmas.Fmt.{decimal_by_steps}
 use Rattle.std.proofs.lemmas.List.{append-nil, length-append}
@@ -20,7 +20,7 @@ byte_back i b bs h =
     ∙ (ap (λ (v : Option ℕ). byte_before i (Some (b / 16)) v (Ok bs)) (digit_back (b % 16) (omega arith))
     ∙ ap (λ (n : ℕ). Ok (n ∷ bs)) (let e : 16 * (b / 16) + b % 16 ≡ b = omega arith in e))
 
-hex_back : (i : ℕ) (bs : List ℕ) → All (λ (b : ℕ). b < 256) bs → unhex_from i (hex_of bs) ≡ Ok bs
+hex_back : (i : ℕ) (bs : List ℕ) → AllByRecursion (λ (b : ℕ). b < 256) bs → unhex_from i (hex_of bs) ≡ Ok bs
 unfolding hex_of unhex_from
 hex_back i [] all = refl
 hex_back i (b ∷ bs) all =

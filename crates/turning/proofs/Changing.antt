@@ -1,5 +1,5 @@
 -- A move that changes agreement and says nothing: the deeds before it mean what they meant, since what is held, the slots and the answers are the same.
-use Rattle.std.proofs.Common.{◌≡◌, ℕ, List, [], ◌∷◌, ◌++◌, map, sym, refl, ap, ◌∙◌}
+use Rattle.std.proofs.Common.{◌≡◌, ℕ, map, ap, ◌∙◌}
 use Rattle.agreement.specs.declared.Agreement.{Agreement}
 use Rattle.agreement.specs.Machine as Machine
 use Rattle.agreement.specs.Machine.{Mind, still, then_do}
@@ -7,7 +7,6 @@ use Rattle.service.specs.Service.{lines}
 use Rattle.outbox.specs.Deeds.{list_of}
 use Rattle.memory.specs.declared.lent.Memory.{Memory}
 use Rattle.memory.specs.Keeps.{state_in, slot_at}
-use Rattle.turning.specs.declared.House.{House}
 use Rattle.turning.specs.declared.Turn.{Turn}
 use Rattle.turning.specs.Turns.{mind_of, deed_of, turn_of, MovesBy, Agrees}
 use Rattle.turning.proofs.Chains.{then_change}

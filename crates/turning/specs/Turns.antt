@@ -1,6 +1,6 @@
 -- What a replica by value and lent memory stand for: the machine's mind; and a turn under way: what was done so far, and the mind that there is now.
 -- A proposal that is said is the one that is held, a call lies in its slot, an answer among those of this turn. Assumes nothing.
-use Rattle.std.specs.Prelude.{◌≡◌, ℕ, suc, ◌+◌, ◌<◌, ◌≤◌, Bool, not, ◌&&◌, List, [], ◌∷◌, ◌++◌, map, ◌==◌, nat_lt, slice_index}
+use Rattle.std.specs.Prelude.{◌≡◌, ℕ, suc, ◌+◌, ◌<◌, ◌≤◌, Bool, not, ◌&&◌, List, ◌++◌, map, ◌==◌, nat_lt, slice_index}
 use Rattle.std.specs.List.{between}
 use Rattle.runs.specs.Replicas.{Does, Says, Gives, Whole'}
 use Rattle.agreement.specs.declared.Agreement.{Agreement}
@@ -14,7 +14,6 @@ use Rattle.outbox.specs.declared.Deed.{Deed}
 use Rattle.outbox.specs.declared.Deed.TheVariants as deed
 use Rattle.outbox.specs.Deeds.{list_of}
 use Rattle.memory.specs.declared.lent.Memory.{Memory}
-use Rattle.memory.specs.declared.lent.Kept.{Kept}
 use Rattle.memory.specs.Keeps.{state_in, slot_at, waiting_in, queued_in}
 use Rattle.turning.specs.declared.House.{House}
 use Rattle.turning.specs.declared.Turn.{Turn}

@@ -1,4 +1,6 @@
 // A turn of a replica, from moves that only say something or change what is by value. Each move is the machine's, on whatever memory there is.
+#![tactic(auto)]
+
 pub mod changes;
 
 ghost use Rattle.std.specs.Prelude.{◌≡◌, ◌+◌, ◌<◌, ◌≤◌, List, [], ◌∷◌, ◌++◌};

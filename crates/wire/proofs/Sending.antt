@@ -1,6 +1,6 @@
 -- Every state that a run of the service comes to can be sent: the first one can, and a call that may be done leaves one that can. Assumes nothing.
 use Rattle.std.proofs.Common.{◌≡◌, ℕ, suc, ◌+◌, ◌<◌, ◌≤◌, Bool, true, not, ◌||◌, eqb, ltb, leb, List, [], ◌∷◌, ◌++◌, length, sym, refl, subst, ⊎_elim, arith}
-use Rattle.std.specs.List.{AllByRecursion as All}
+use Rattle.std.specs.List.{AllByRecursion}
 use Rattle.std.proofs.ByRecursion.{All-push}
 use Rattle.std.proofs.lemmas.Bool.{and_parts, or_parts, or_cases, cond_both, eqb-true, not-false, ltb-true, leb-true}
 use Rattle.model.specs.Tree as Tree
@@ -18,10 +18,10 @@ use Rattle.wire.proofs.TreesAgain.{sessions_small}
 -- a state whose entries are tidy, and stay so by one act more
 record Orderly (s : State) : Type 0 where
   early : s.changes < 72057594037927936
-  sessions : All (λ x. x < 18446744073709551616) s.sessions
-  entries : All TidyEntry s.entries
+  sessions : AllByRecursion (λ x. x < 18446744073709551616) s.sessions
+  entries : AllByRecursion TidyEntry s.entries
 
-open_small : (o : ℕ) (xs : List ℕ) → All (λ x. x < 18446744073709551616) xs → some (eqb o) xs ≡ true → o < 18446744073709551616
+open_small : (o : ℕ) (xs : List ℕ) → AllByRecursion (λ x. x < 18446744073709551616) xs → some (eqb o) xs ≡ true → o < 18446744073709551616
 unfolding some
 open_small o [] h e = absurd (let z : ◌≡◌ {A = ℕ} 0 1 = cc in omega arith)
 open_small o (x ∷ xs) h e = ⊎_elim (λ t. omega (arith, eqb-true o x t, h.0)) (λ t. open_small o xs h.1 t) (or_cases (eqb o x) (some (eqb o) xs) e)
@@ -33,7 +33,7 @@ counting_tidy : (e : Entry) → TidyEntry e → TidyEntry (counting e)
 counting_tidy e t = record { named = t.named; short = t.short; made = t.made; changed = t.changed; owner = t.owner }
 
 module _ (s : State) (h : Orderly s) (qs : List Path) (t : State) where
-  make_tidy : (p : Path) (v : List ℕ) (n : Bool) (o : ℕ) → acts (Make p v n o) s ≡ Good qs t → All TidyEntry t.entries
+  make_tidy : (p : Path) (v : List ℕ) (n : Bool) (o : ℕ) → acts (Make p v n o) s ≡ Good qs t → AllByRecursion TidyEntry t.entries
   unfolding acts
   make_tidy p v n o e =
       let m = make_parts p v n o s qs t e in
@@ -41,33 +41,33 @@ module _ (s : State) (h : Orderly s) (qs : List Path) (t : State) where
       let ways = or_parts (not (path_ok p) || not (value_ok v)) _ (not_refused 1 _ _ qs t e).0 in
       let fine = not-false (value_ok v) (or_parts (not (path_ok p)) (not (value_ok v)) ways.0).1 in
       let owner : o < 18446744073709551616 = ⊎_elim (λ z. omega arith) (open_small o s.sessions h.sessions) m.open' in
-      subst (λ (u : State). All TidyEntry u.entries) (sym m.state)
+      subst (λ (u : State). AllByRecursion TidyEntry u.entries) (sym m.state)
       (All-push TidyEntry _ _ (all_change TidyEntry TidyEntry (at (Tree.above q)) counting (λ e t. t) counting_tidy s.entries h.entries)
       (record { named = true_ok p n s m.range m.short; short = value_short v fine; made = omega (arith, h.early); changed = omega (arith, h.early); owner = owner }))
 
-  put_tidy : (p : Path) (v : List ℕ) (x : Tree.Expect) → acts (Put p v x) s ≡ Good qs t → All TidyEntry t.entries
+  put_tidy : (p : Path) (v : List ℕ) (x : Tree.Expect) → acts (Put p v x) s ≡ Good qs t → AllByRecursion TidyEntry t.entries
   unfolding acts
   put_tidy p v x e =
       let is = same_state [] qs _ t (good_of 4 _ _ qs t (good_of 2 _ _ qs t (good_of 1 _ _ qs t e))) in
       let fine = not-false (value_ok v) (or_parts (not (path_ok p)) (not (value_ok v)) (not_refused 1 _ _ qs t e).0).1 in
-      subst (λ (u : State). All TidyEntry u.entries) is
+      subst (λ (u : State). AllByRecursion TidyEntry u.entries) is
       (all_change TidyEntry TidyEntry (at p) (put_in v (s.changes + 1)) (λ e t. t) (λ e t. record { named = t.named; short = value_short v fine; made = t.made; changed = omega (arith, h.early); owner = t.owner }) s.entries h.entries)
 
-  act_tidy : (a : Act) → acts a s ≡ Good qs t → All TidyEntry t.entries
+  act_tidy : (a : Act) → acts a s ≡ Good qs t → AllByRecursion TidyEntry t.entries
   unfolding acts
   act_tidy (Make p v n o) e = make_tidy p v n o e
   act_tidy (Put p v x) e = put_tidy p v x e
   act_tidy (Drop p x) e =
       let is = same_state [] qs _ t (good_of 5 _ _ qs t (good_of 4 _ _ qs t (good_of 2 _ _ qs t (good_of 1 _ _ qs t e)))) in
-      subst (λ (u : State). All TidyEntry u.entries) is (all_keep TidyEntry TidyEntry (λ (y : Entry). not (at p y)) s.entries h.entries)
+      subst (λ (u : State). AllByRecursion TidyEntry u.entries) is (all_keep TidyEntry TidyEntry (λ (y : Entry). not (at p y)) s.entries h.entries)
   act_tidy (Check p x) e =
       let is = same_state [] qs s t (good_of 4 _ _ qs t (good_of 2 _ _ qs t (good_of 1 _ _ qs t e))) in
-      subst (λ (u : State). All TidyEntry u.entries) is h.entries
+      subst (λ (u : State). AllByRecursion TidyEntry u.entries) is h.entries
 
   orderly_act : (a : Act) → acts a s ≡ Good qs t → Orderly t
   orderly_act a e =
       let d = act_did a s qs t e in
-      record { early = omega (arith, d.changes, h.early); sessions = subst (All (λ x. x < 18446744073709551616)) (sym d.sessions) h.sessions; entries = act_tidy a e }
+      record { early = omega (arith, d.changes, h.early); sessions = subst (AllByRecursion (λ x. x < 18446744073709551616)) (sym d.sessions) h.sessions; entries = act_tidy a e }
 
 -- SEVERAL ACTS
 abbrev OrderlyGoing : Going → Type 0

@@ -1,6 +1,6 @@
 -- A tree that is written is read again as that tree: its prelude has the numbers, and each cell behind it is that of its entry. Assumes nothing.
 use Rattle.std.proofs.Common.{◌≡◌, ℕ, ◌+◌, ◌*◌, ◌<◌, ◌≤◌, true, cond, not, ◌&&◌, ltb, leb, List, [], ◌∷◌, ◌++◌, map, length, get_or, take, Some, None, Option, sym, refl, ap, ◌∙◌, subst, append_assoc, append-nil, arith, length-append}
-use Rattle.std.specs.List.{AllByRecursion as All}
+use Rattle.std.specs.List.{AllByRecursion}
 use Rattle.std.proofs.ByRecursion.{All-weaker}
 use Rattle.std.proofs.lemmas.List.{get_or-append-add, get_or_append_left, take-append-le, take_all, map_push}
 use Rattle.std.proofs.lemmas.Bool.{and_parts, ltb-true, leb-true}
@@ -27,7 +27,7 @@ unfolding many_written
 length_numbers_written [] = refl
 length_numbers_written (x ∷ xs) = omega (arith, length-append (be8 x) (many_written be8 xs), length_be8 x, length_numbers_written xs)
 
-numbers_written : (p xs : List ℕ) (i : ℕ) → i ≡ length p → All (λ x. x < 18446744073709551616) xs → numbers_at (length xs) (p ++ many_written be8 xs) i ≡ xs
+numbers_written : (p xs : List ℕ) (i : ℕ) → i ≡ length p → AllByRecursion (λ x. x < 18446744073709551616) xs → numbers_at (length xs) (p ++ many_written be8 xs) i ≡ xs
 unfolding numbers_at many_written
 numbers_written p [] i e h = refl
 numbers_written p (x ∷ xs) i e h =
@@ -36,7 +36,7 @@ numbers_written p (x ∷ xs) i e h =
     let more = ap (λ (l : List ℕ). numbers_at (length xs) l (i + 8)) (sym (append_assoc p (be8 x) ws)) ∙ numbers_written (p ++ be8 x) xs (i + 8) (omega (arith, length-append p (be8 x), length_be8 x)) h.1 in
     λ j. one j ∷ more j
 
-rising_below : (low : ℕ) (xs : List ℕ) (last : ℕ) → rising low xs last ≡ true → (low ≤ last) × All (λ x. x ≤ last) xs
+rising_below : (low : ℕ) (xs : List ℕ) (last : ℕ) → rising low xs last ≡ true → (low ≤ last) × AllByRecursion (λ x. x ≤ last) xs
 unfolding rising
 rising_below low [] last h = (leb-true low last h, tt)
 rising_below low (x ∷ xs) last h =
@@ -46,7 +46,7 @@ rising_below low (x ∷ xs) last h =
 
 -- THE PRELUDE
 module _ (room : ℕ) (s : State) (f : Fits room s) where
-  pub sessions_small : All (λ x. x < 18446744073709551616) s.sessions
+  pub sessions_small : AllByRecursion (λ x. x < 18446744073709551616) s.sessions
   sessions_small = All-weaker (λ x. x ≤ s.last_session) (λ x. x < 18446744073709551616) (λ x l. omega (arith, f.opened, f.early)) s.sessions (rising_below 0 s.sessions s.last_session f.rises).1
 
   -- the numbers in front of the sessions
@@ -153,7 +153,7 @@ laid_more pre es mem e l w =
       entries = ap (map entry_of) (cut_push mem (entry_bytes e) ps h.some h.ends h.within) ∙ map_push entry_of (cut mem ps) (entry_bytes e) ∙ (λ i. l.entries i ++ cell_read e w i ∷ []);
     }
 
-laid_all : (pre : List ℕ) (es : List Entry) (mem : List ℕ) (fs : List Entry) → Laid pre es mem → All Written fs → Laid pre (es ++ fs) (mem ++ many_written entry_bytes fs)
+laid_all : (pre : List ℕ) (es : List Entry) (mem : List ℕ) (fs : List Entry) → Laid pre es mem → AllByRecursion Written fs → Laid pre (es ++ fs) (mem ++ many_written entry_bytes fs)
 unfolding many_written
 laid_all pre es mem [] l w = subst (λ (xs : List Entry). Laid pre xs (mem ++ [])) (sym (append-nil es)) (subst (Laid pre es) (sym (append-nil mem)) l)
 laid_all pre es mem (e ∷ fs) l w =
@@ -162,7 +162,7 @@ laid_all pre es mem (e ∷ fs) l w =
     (subst (Laid pre ((es ++ e ∷ []) ++ fs)) (append_assoc mem (entry_bytes e) (many_written entry_bytes fs)) more)
 
 -- ENTRIES of a state that can be sent
-written_all : (limit : ℕ) → limit < 18446744073709551616 → (es : List Entry) → All TidyEntry es → All (CountsTo limit) es → All Written es
+written_all : (limit : ℕ) → limit < 18446744073709551616 → (es : List Entry) → AllByRecursion TidyEntry es → AllByRecursion (CountsTo limit) es → AllByRecursion Written es
 written_all limit l [] t c = tt
 written_all limit l (e ∷ es) t c = (record { tidy = t.0; version = omega (arith, c.0.version); kids = omega (arith, c.0.kids) }, written_all limit l es t.1 c.1)
 

@@ -1,6 +1,6 @@
 -- Bytes that are read as a tree are those that the tree is written as: so a tree that fits has one run of bytes, and a copy of bytes is a copy of the tree. Assumes nothing.
 use Rattle.std.proofs.Common.{◌≡◌, ℕ, zero, suc, ◌+◌, ◌-◌, ◌*◌, ◌<◌, ◌≤◌, List, [], ◌∷◌, ◌++◌, map, length, get_or, take, drop, sym, refl, ap, ◌∙◌, subst, append_assoc, add-zero, arith, length-drop}
-use Rattle.std.specs.List.{between, AllByRecursion as All}
+use Rattle.std.specs.List.{between, AllByRecursion}
 use Rattle.std.proofs.ByRecursion.{All-take, All-drop}
 use Rattle.std.proofs.lemmas.List.{take-append-drop, drop-drop, drop_all, length-take-le}
 use Rattle.model.specs.Tree.{Entry}
@@ -104,7 +104,7 @@ between_back mem o n h =
     let e : o + (n - o) ≡ n = omega arith in
     ap (λ (l : List ℕ). take (n - o) (drop o mem) ++ l) (sym (drop-drop (n - o) o mem ∙ ap (λ (k : ℕ). drop k mem) e)) ∙ take-append-drop (n - o) (drop o mem)
 
-cells_back : (mem ps : List ℕ) → Bytes mem → 0 < length ps → last_of ps ≡ length mem → ((i : ℕ) → i + 1 < length ps → get_or ps i 0 ≤ get_or ps (i + 1) 0) → All Formed (cut mem ps) →
+cells_back : (mem ps : List ℕ) → Bytes mem → 0 < length ps → last_of ps ≡ length mem → ((i : ℕ) → i + 1 < length ps → get_or ps i 0 ≤ get_or ps (i + 1) 0) → AllByRecursion Formed (cut mem ps) →
     many_written entry_bytes (map entry_of (cut mem ps)) ≡ drop (get_or ps 0 0) mem
 unfolding cut last_of many_written
 cells_back mem [] small s e r g = absurd (omega arith)

@@ -1,6 +1,6 @@
 -- A tree as bytes: those that it has in memory, computed from the tree. Assumes nothing.
 use Rattle.std.specs.Prelude.{◌≡◌, ℕ, ◌<◌, ◌≤◌, true, List, ◌++◌, length}
-use Rattle.std.specs.List.{AllByRecursion as All}
+use Rattle.std.specs.List.{AllByRecursion}
 use Rattle.model.specs.Tree.{Entry, State, path_ok}
 use Rattle.lent_bytes.specs.Numbers.{be4, be8}
 use Rattle.lent_bytes.specs.Paths.{path_bytes}
@@ -41,7 +41,7 @@ pub record TidyEntry (e : Entry) : Type 0 where
 
 -- The entries of a state are such. Its other numbers have 64 bits where it fits a room.
 pub record Tidy (s : State) : Type 0 where
-  pub entries : All TidyEntry s.entries
+  pub entries : AllByRecursion TidyEntry s.entries
 
 -- A state that can be sent: it is what its bytes are read as.
 pub record Sendable (room : ℕ) (s : State) : Type 0 where

@@ -1,4 +1,3 @@
-use Rattle.std.proofs.Common.{refl}
 use Rattle.agreement.specs.Machine.{tell}
 use Rattle.outbox.specs.Deeds.{tellBy}
 use Rattle.turning.proofs.Saying.{moved_by, one_told, tell_mind}

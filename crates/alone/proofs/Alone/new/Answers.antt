@@ -1,8 +1,7 @@
 -- The buffers are long enough, and the first tree lies in one of them.
-use Rattle.std.proofs.Common.{◌≡◌, ℕ, List, length, take, vec_items, sym, refl, ap, ◌∙◌, subst, arith}
+use Rattle.std.proofs.Common.{ℕ, List, length, take, vec_items, sym, ap, ◌∙◌, subst, arith}
 use Rattle.std.specs.Vec.{with_items}
 use Rattle.std.proofs.lemmas.List.{with_items_is}
-use Rattle.model.specs.Tree.{State, blank}
 use Rattle.cells.specs.Fits.{Fits}
 use Rattle.content.specs.Content.{is_tree}
 use Rattle.alone.specs.Standing.{stands_for}

@@ -1,5 +1,5 @@
 use Rattle.std.proofs.Common.{◌≡◌, ℕ, ◌+◌, ◌%◌, length, set, refl, arith, rules}
-use Rattle.memory.proofs.Waits.{slot_below, Filled, filled, waits_more, queue_still}
+use Rattle.memory.proofs.Waits.{slot_below, filled, waits_more, queue_still}
 use Rattle.memory.proofs.waiting.put_call.Goals as goal
 
 pub write_at-requires : goal.write_at-requires

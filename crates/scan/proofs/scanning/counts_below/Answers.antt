@@ -1,5 +1,5 @@
 use Rattle.std.proofs.Common.{sym, refl, subst, arith}
-use Rattle.std.specs.List.{AllByRecursion as All}
+use Rattle.std.specs.List.{AllByRecursion}
 use Rattle.std.proofs.ByRecursion.{All-more}
 use Rattle.std.proofs.lemmas.List.{take_all}
 use Rattle.lent_bytes.proofs.Walks.{refused}
@@ -34,4 +34,4 @@ pub returns : goal.returns
 returns c =
     let es = entries_of c.args.tree.bytes.now c.args.tree.places.now in
     let all = take_all c.loop-i.i es (omega (arith, length_entries c.args.tree.bytes.now c.args.tree.places.now)) in
-    (λ e. record { top = omega (arith, c.if-top_of-limit.false, c.top_of.ensures); entries = subst (All (CountsTo c.args.limit)) all c.loop-i.invariant }, λ b. refl)
+    (λ e. record { top = omega (arith, c.if-top_of-limit.false, c.top_of.ensures); entries = subst (AllByRecursion (CountsTo c.args.limit)) all c.loop-i.invariant }, λ b. refl)

@@ -1,5 +1,5 @@
 -- Each turn takes one of them.
-use Rattle.std.proofs.Common.{◌≡◌, ℕ, ◌+◌, max, List, get_or, drop, sym, ap, ◌∙◌}
+use Rattle.std.proofs.Common.{ℕ, ◌+◌, drop, sym, ap, ◌∙◌}
 use Rattle.std.proofs.lemmas.List.{at_drop_more, at_drop_all}
 use Rattle.script.specs.Incarnations.{highest}
 use Rattle.script.proofs.incarnations.highest_of.Goals as goal

@@ -1,5 +1,5 @@
 -- Each turn looks at one of them.
-use Rattle.std.proofs.Common.{◌≡◌, ◌+◌, Bool, ◌||◌, eqb, get_or, drop, sym, ap, ◌∙◌}
+use Rattle.std.proofs.Common.{◌+◌, Bool, ◌||◌, get_or, drop, sym, ap, ◌∙◌}
 use Rattle.std.proofs.lemmas.List.{at_drop_more, at_drop_all}
 use Rattle.std.proofs.lemmas.Bool.{eq-eqb, ne_eqb}
 use Rattle.script.specs.Incarnations.{is_drawn}

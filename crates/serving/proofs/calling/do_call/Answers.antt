@@ -4,7 +4,7 @@ use Rattle.cells.specs.Fits.{Calm}
 use Rattle.memory.specs.Keeps.{state_in, slot_at}
 use Rattle.memory.proofs.Sides.{unmoved_left, unmoved_right}
 use Rattle.serving.proofs.Doings.{wrote_as, did_left, did_right}
-use Rattle.serving.proofs.doing.do_call.Goals as goal
+use Rattle.serving.proofs.calling.do_call.Goals as goal
 
 pub write_call-written-requires : goal.write_call-written-requires
 write_call-written-requires c =
