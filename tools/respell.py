@@ -2,10 +2,12 @@
 """Brings the repository's own definitions and lemmas to one spelling: words in snake case, as 'lastName' to 'last_name' and 'accepted-back' to 'accepted_back'.
 
 usage: respell.py [FOLDER]     in FOLDER (default: here) rewrites crates/*/{specs,proofs,src,must-fail} by the table respell.tsv beside this script,
-                               and renames the crate 'bytes', whose name a library of the toolchain has, to 'lent_bytes'
+                               renames the crate 'bytes', whose name a library of the toolchain has, to 'lent_bytes',
+                               and calls the library's AllByRecursion by its own name where a file brought it in as All, which the library has too
 
 A row of the table is: old name, a tab, new name; where a third column stands, the row holds only in files whose path begins so.
 Whole words alone turn. In a .rt file only clauses and comments have such names, so a string stays; in comments only camel case turns, since a name with a dash may be plain words there.
+Run it once, on files of the old spelling: a new name may be the old one of another.
 """
 
 import os
@@ -14,6 +16,7 @@ import sys
 
 WORD = re.compile(r"[^\s(){}\[\].;,@\"«»λ`]+")
 CRATE = ("bytes", "lent_bytes")
+ALIAS = "AllByRecursion as All"
 QUOTED = re.compile(r'"(?:[^"\\\n]|\\.)*"')
 
 
@@ -45,6 +48,17 @@ def rename_crate(root):
 def with_crate(text):
     text = re.sub(r"\bRattle\.%s\." % CRATE[0], "Rattle.%s." % CRATE[1], text)
     return re.sub(r"(?<![\w:])%s::" % CRATE[0], CRATE[1] + "::", text)
+
+
+def without_alias(text, mark):
+    """AllByRecursion by its own name, in a file that brought it in as All."""
+    if not mark or ALIAS not in text:
+        return text
+    lines = []
+    for line in text.replace(ALIAS, ALIAS.split()[0]).split("\n"):
+        cut = comment_at(line, mark)
+        lines.append(WORD.sub(lambda w: ALIAS.split()[0] if w.group() == "All" else w.group(), line[:cut]) + line[cut:])
+    return "\n".join(lines)
 
 
 def comment_at(line, mark):
@@ -88,7 +102,8 @@ def main(argv):
             for old, new, where in special:
                 if os.path.relpath(path, root).startswith(where):
                     names[old] = new
-            new_text = with_crate(turned(text, names, {".antt": "--", ".rt": "//", ".edit": None}[kind]))
+            mark = {".antt": "--", ".rt": "//", ".edit": None}[kind]
+            new_text = without_alias(with_crate(turned(text, names, mark)), mark)
             if new_text != text:
                 with open(path, "w", encoding="utf-8") as f:
                     f.write(new_text)
