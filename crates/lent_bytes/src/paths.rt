@@ -3,6 +3,13 @@ ghost use Rattle.std.specs.Prelude.{◌≡◌, ◌<◌, true, length, Decides};
 ghost use Rattle.model.specs.Tree.{path_ok};
 ghost use Rattle.lent_bytes.specs.Paths.{path_of, Spells, LastAt};
 
+// A path: its names one behind the other, each with its length in front; no names is the top.
+#[derive(Clone, Copy)]
+pub struct Path<'a> {
+    pub names: &'a [u8],
+    ghost spells: { Spells names.now },
+}
+
 // Do bytes spell a path whose names are in range.
 pub fn check_path(path: &[u8]) -> bool
     ensures { Decides result (Spells path.now × (path_ok (path_of path.now) ≡ true)) }
