@@ -1,4 +1,6 @@
 pub mod Layout
+pub mod Props
 pub mod Fits
 pub mod Searches
 pub mod Drafts
+pub mod Entries

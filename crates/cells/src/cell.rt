@@ -2,11 +2,13 @@
 ghost use Rattle.std.specs.Prelude.{◌≡◌, ◌≤◌, true, length};
 ghost use Rattle.model.specs.Tree.{at, is_kid, path_ok};
 ghost use Rattle.lent_bytes.specs.Numbers.{be32};
-ghost use Rattle.lent_bytes.specs.Paths.{path_of, Spells};
+ghost use Rattle.lent_bytes.specs.Paths.{path_of};
 ghost use Rattle.cells.specs.Layout.{head_of, entry_of, path_part, Formed};
+ghost use Rattle.cells.specs.Props.{Formed-prop};
 
 use lent_bytes::counts::{Count, Session, Version};
 use lent_bytes::numbers::{read_u32, read_u64};
+use lent_bytes::paths::Path;
 
 // What stands before an entry's path and value.
 #[derive(Clone, Copy)]
@@ -35,53 +37,63 @@ pub fn read_head(cell: &[u8]) -> Head
     }
 }
 
-// The part of a cell that is the entry's path.
-pub fn path_in(cell: &[u8]) -> &[u8]
-    requires { Formed cell.now }
-    ensures value { result.now ≡ path_part cell.now }
-    ensures len { length result.now ≡ be32 cell.now 4 }
-    ensures spells { Spells result.now }
-    ensures ok { path_ok (path_of result.now) ≡ true }
-{
-    let n = read_u32(cell, 4) as usize;
-    &cell[48..48 + n]
+// Bytes that are an entry.
+#[derive(Clone, Copy)]
+pub struct Cell<'a> {
+    pub bytes: &'a [u8],
+    ghost formed: { Formed bytes.now } by { Formed-prop bytes.now },
 }
 
-// The part of a cell that is the entry's value: all behind its path.
-pub fn value_in(cell: &[u8]) -> &[u8]
-    requires { Formed cell.now }
-    ensures { result.now ≡ (entry_of cell.now).value }
-{
-    let path = read_u32(cell, 4) as usize;
-    &cell[48 + path..]
-}
-
-// Is this the entry of that path.
-pub fn is_at(cell: &[u8], path: &[u8]) -> bool
-    requires good { Formed cell.now }
-    requires spells { Spells path.now }
-    ensures { result ≡ at (path_of path.now) (entry_of cell.now) }
-{
-    let len = read_u32(cell, 4) as usize;
-    let own = &cell[48..48 + len];
-    own == path
-}
-
-// Does the entry stand directly under that path.
-pub fn is_kid(cell: &[u8], path: &[u8]) -> bool
-    requires good { Formed cell.now }
-    requires spells { Spells path.now }
-    ensures { result ≡ is_kid (path_of path.now) (entry_of cell.now) }
-{
-    let own = path_in(cell);
-    let n = path.len();
-    if own.len() <= n {
-        return false;
+impl<'a> Cell<'a> {
+    pub fn head(self) -> Head
+        ensures { result ≡ head_of self.entry.bytes.now }
+    {
+        read_head(self.bytes)
     }
-    let (front, rest) = own.split_at(n);
-    if front == path {
-        rest[0] as usize + 1 == rest.len()
-    } else {
-        false
+
+    // The part of a cell that is the entry's path.
+    pub fn path(self) -> Path<'a>
+        ensures value { result.names.now ≡ path_part self.entry.bytes.now }
+        ensures len { length result.names.now ≡ be32 self.entry.bytes.now 4 }
+        ensures ok { path_ok (path_of result.names.now) ≡ true }
+    {
+        let n = read_u32(self.bytes, 4) as usize;
+        Path {
+            names: &self.bytes[48..48 + n],
+        }
+    }
+
+    // The part of a cell that is the entry's value: all behind its path.
+    pub fn value(self) -> &'a [u8]
+        ensures { result.now ≡ (entry_of self.entry.bytes.now).value }
+    {
+        let path = read_u32(self.bytes, 4) as usize;
+        &self.bytes[48 + path..]
+    }
+
+    // Is this the entry of that path.
+    pub fn is_at(self, path: Path<'_>) -> bool
+        ensures { result ≡ at (path_of path.entry.names.now) (entry_of self.entry.bytes.now) }
+    {
+        let len = read_u32(self.bytes, 4) as usize;
+        let own = &self.bytes[48..48 + len];
+        own == path.names
+    }
+
+    // Does the entry stand directly under that path.
+    pub fn is_kid(self, path: Path<'_>) -> bool
+        ensures { result ≡ is_kid (path_of path.entry.names.now) (entry_of self.entry.bytes.now) }
+    {
+        let own = self.path().names;
+        let n = path.names.len();
+        if own.len() <= n {
+            return false;
+        }
+        let (front, rest) = own.split_at(n);
+        if front == path.names {
+            rest[0] as usize + 1 == rest.len()
+        } else {
+            false
+        }
     }
 }

@@ -2,7 +2,7 @@ use Rattle.std.proofs.Common.{◌≡◌, ◌+◌, ◌-◌, ◌*◌, eqb}
 use Rattle.model.specs.Tree.{some}
 use Rattle.lent_bytes.specs.Numbers.{be32}
 use Rattle.cells.specs.Layout.{numbers_at, sessions_in}
-use Rattle.cells.proofs.held.is_open.Given as goal
+use Rattle.cells.proofs.held.Tree.is_open.Given as goal
 
 -- what there was to look through is what is left
 abbrev pub invariant-loop-i : goal.invariant-loop-i
