@@ -1,25 +1,8 @@
--- One turn of a loop that weighs entries or keeps some of them. Assumes nothing.
-use Rattle.std.proofs.Common.{◌≡◌, ℕ, ◌+◌, ◌<◌, ◌≤◌, Bool, true, false, cond, List, [], ◌∷◌, ◌++◌, length, get_or, take, sym, refl, ap, ◌∙◌, ⊎_elim, append-nil, arith, length-drop}
+-- One turn of a loop that keeps some entries. Assumes nothing.
+use Rattle.std.proofs.Common.{◌≡◌, ℕ, ◌+◌, ◌<◌, ◌≤◌, Bool, true, false, cond, List, [], ◌∷◌, ◌++◌, length, get_or, take, sym, refl, ap, ◌∙◌, ⊎_elim, append-nil, arith}
 use Rattle.std.proofs.lemmas.List.{take_more, take_all}
 use Rattle.std.proofs.lemmas.Bool.{cond-true, cond-false, cases_Bool}
-use Rattle.model.specs.Tree.{Entry, keep, weight_of}
-use Rattle.lent_bytes.specs.Numbers.{be32}
-use Rattle.cells.specs.Layout.{entry_of, Formed}
-
-weight_push : (es : List Entry) (e : Entry) → weight_of (es ++ e ∷ []) ≡ weight_of es + (1280 + length e.value)
-unfolding weight_of
-weight_push [] e = omega arith
-weight_push (x ∷ es) e = omega (arith, weight_push es e)
-
-pub weight_none : (es : List Entry) → 0 ≡ weight_of (take 0 es)
-unfolding weight_of
-weight_none es = refl
-
-pub weight_more : (es : List Entry) (i : ℕ) (e : Entry) → i < length es → get_or es i e ≡ e → weight_of (take (i + 1) es) ≡ weight_of (take i es) + (1280 + length e.value)
-weight_more es i e l is = ap weight_of (take_more es i e l ∙ ap (λ x. take i es ++ x ∷ []) is) ∙ weight_push (take i es) e
-
-pub weight_all : (es : List Entry) (i : ℕ) → length es ≤ i → weight_of (take i es) ≡ weight_of es
-weight_all es i l = ap weight_of (take_all i es l)
+use Rattle.model.specs.Tree.{keep}
 
 module _ {A : Type 0} (f : A → Bool) where
   keep_push : (xs : List A) (x : A) → keep f (xs ++ x ∷ []) ≡ keep f xs ++ cond (f x) (x ∷ []) []
@@ -47,7 +30,3 @@ module _ {A : Type 0} (f : A → Bool) where
 
   pub keep_all : (xs : List A) (i : ℕ) → length xs ≤ i → keep f (take i xs) ≡ keep f xs
   keep_all xs i l = ap (keep f) (take_all i xs l)
-
-pub value_long : (c : List ℕ) → Formed c → 48 + length (entry_of c).value ≤ length c
-unfolding entry_of
-value_long c f = omega (arith, f.long, length-drop (48 + be32 c 4) c)

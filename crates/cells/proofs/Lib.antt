@@ -7,4 +7,5 @@ pub mod Made
 pub mod Preludes
 pub mod Pushes
 pub mod Sessions
+pub mod Walks
 pub mod Weights

@@ -4,3 +4,4 @@ pub mod Fits
 pub mod Searches
 pub mod Drafts
 pub mod Entries
+pub mod Walks

@@ -65,7 +65,8 @@ impl<'a> Cell<'a> {
 
     // The part of a cell that is the entry's value: all behind its path.
     pub fn value(self) -> &'a [u8]
-        ensures { result.now ≡ (entry_of self.entry.bytes.now).value }
+        ensures value { result.now ≡ (entry_of self.entry.bytes.now).value }
+        ensures few { length result.now ≤ 65536 }
     {
         let path = read_u32(self.bytes, 4) as usize;
         &self.bytes[48 + path..]

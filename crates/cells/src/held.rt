@@ -21,6 +21,7 @@ pub struct Tree<'a> {
 
 impl<'a> Tree<'a> {
     ghost use Rattle.cells.specs.Entries.{tree_entries, tree_state};
+    ghost use Rattle.cells.specs.Walks.{cells_left};
 
     // The part of a tree before its entries.
     pub fn prelude(self) -> &'a [u8]
@@ -86,29 +87,26 @@ impl<'a> Tree<'a> {
         }
     }
 
+    // The entries one after the other, in the order of making.
+    pub fn cells(self) -> Cells<'a>
+        ensures { cells_left result ≡ cut self.entry.bytes.now self.entry.places.now }
+    {
+        Cells { tree: self, at: 0 }
+    }
+
     // The first entry of that path.
     pub fn find(self, path: Path<'_>) -> Option<usize>
         ensures found { Found (at (path_of path.entry.names.now)) (tree_entries self.entry) result }
         ensures within { IfSome result (λ i. i + 1 < length self.entry.places.now) }
     {
-        for i in 0..self.len() {
-            if self.cell(i).is_at(path) {
-                return Some(i);
-            }
-        }
-        None
+        self.cells().position(|cell| cell.is_at(path))
     }
 
     // Does an entry stand directly under that path.
     pub fn has_kids(self, path: Path<'_>) -> bool
         ensures { result ≡ some (is_kid (path_of path.entry.names.now)) (tree_entries self.entry) }
     {
-        for i in 0..self.len() {
-            if self.cell(i).is_kid(path) {
-                return true;
-            }
-        }
-        false
+        self.cells().any(|cell| cell.is_kid(path))
     }
 
     // What the entries of a tree weigh.
@@ -116,10 +114,36 @@ impl<'a> Tree<'a> {
         requires { length self.bytes.now < 4294967296 }
         ensures { result ≡ weight_of (tree_entries self.entry) }
     {
-        let mut sum = 0u64;
-        for i in 0..self.len() {
-            sum += 1280 + self.cell(i).value().len() as u64;
+        self.cells()
+            .map(|cell| 1280 + cell.value().len() as u64)
+            .sum()
+    }
+}
+
+// The entries of a tree that are still to come.
+#[derive(Drop)]
+pub struct Cells<'a> {
+    tree: Tree<'a>,
+    at: usize,
+    ghost inside: { at < length tree.places.now },
+}
+
+impl<'a> Iterator for Cells<'a> {
+    ghost use Rattle.std.specs.Iterator.{item_count, YieldsFirstBy};
+    ghost use Rattle.cells.specs.Walks.{bytes_of, cells_left};
+
+    type Item = Cell<'a>;
+
+    ghost next_gives = { YieldsFirstBy bytes_of cells_left };
+
+    ghost remaining = { item_count cells_left };
+
+    fn next(&mut self) -> Option<Cell<'a>> {
+        if self.at == self.tree.len() {
+            return None;
         }
-        sum
+        let cell = self.tree.cell(self.at);
+        self.at += 1;
+        Some(cell)
     }
 }

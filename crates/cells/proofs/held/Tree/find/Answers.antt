@@ -1,32 +1,25 @@
-use Rattle.std.proofs.Common.{sym, ap, ◌∙◌, arith}
+use Rattle.std.proofs.Common.{ℕ, List, length, ap, sym, subst, arith, rules}
+use Rattle.std.proofs.lemmas.Iterator.Consumers.{YieldsList-from_first}
+use Rattle.std.proofs.lemmas.Iterator.Search.{position_from_yields_List}
 use Rattle.model.specs.Tree.{at}
 use Rattle.lent_bytes.specs.Paths.{path_of}
-use Rattle.cells.specs.Layout.{entry_of, entries_of}
-use Rattle.cells.proofs.Cells.{length_entries}
-use Rattle.cells.proofs.Firsts.{some_none, some_more, some_all}
+use Rattle.cells.specs.Layout.{cut, entry_of, entries_of}
+use Rattle.cells.specs.Searches.{Found}
+use Rattle.cells.specs.Walks.{bytes_of, cells_left}
+use Rattle.cells.proofs.Cells.{length_cut}
+use Rattle.cells.proofs.Walks.{found_first}
 use Rattle.cells.proofs.held.Tree.find.Goals as goal
 
-pub loop-i-init : goal.loop-i-init
-loop-i-init c = some_none _ (entries_of c.args.self.bytes.now c.args.self.places.now)
+pub position-requires-clause-fits : goal.position-requires-clause-fits
+position-requires-clause-fits c = search (rules, length_cut, c.cells.ensures)
 
-pub returns-then-is_at : goal.returns-then-is_at
-returns-then-is_at c = record {
-  found = record {
-    within = omega (arith, length_entries c.args.self.bytes.now c.args.self.places.now);
-    before = c.loop-i.invariant;
-    here = λ d. ap (at (path_of c.args.path.names.now)) (c.cell.ensures.entry d) ∙ sym c.if-is_at.ensures;
-  };
-  within = omega arith;
-}
+pub returns-clause-found : goal.returns-clause-found
+returns-clause-found c =
+    let mem = c.args.self.bytes.now in
+    let ps = c.args.self.places.now in
+    let f = at (path_of c.args.path.names.now) in
+    let is = position_from_yields_List (λ x. f (entry_of x)) _ _ _ c.position.ensures.ran (YieldsList-from_first bytes_of cells_left (cut mem ps) c.cells.ensures) (λ x b q k. search rules) in
+    subst (Found f (entries_of mem ps)) (sym is) (found_first f entry_of (cut mem ps))
 
-pub loop-i-preserved : goal.loop-i-preserved
-loop-i-preserved c =
-    let cell = entry_of c.cell.result.bytes.now in
-    some_more _ _ c.loop-i.i cell (omega (arith, length_entries c.args.self.bytes.now c.args.self.places.now)) c.loop-i.invariant
-    (ap (at (path_of c.args.path.names.now)) (c.cell.ensures.entry cell) ∙ sym c.if-is_at.ensures)
-
-pub returns : goal.returns
-returns c = record {
-  found = some_all _ _ c.loop-i.i (omega (arith, length_entries c.args.self.bytes.now c.args.self.places.now)) c.loop-i.invariant;
-  within = tt;
-}
+pub returns-clause-within : goal.returns-clause-within
+returns-clause-within c = search (rules, length_cut, c.position.ensures.bound)

@@ -1,22 +1,21 @@
-use Rattle.std.proofs.Common.{length, ap, ◌∙◌, arith}
-use Rattle.cells.specs.Layout.{entry_of, entries_of}
-use Rattle.cells.proofs.Cells.{length_entries}
-use Rattle.cells.proofs.Keeps.{weight_none, weight_more, weight_all, value_long}
+use Rattle.std.proofs.Common.{sym, ◌∙◌, arith, rules}
+use Rattle.std.proofs.lemmas.Iterator.{YieldsList-from_map}
+use Rattle.std.proofs.lemmas.Iterator.Consumers.{YieldsList-at, YieldsList-from_first, sum_by_from_yields_List, fits_by_from_yields_list}
+use Rattle.cells.specs.Layout.{cut}
+use Rattle.cells.specs.Walks.{bytes_of, cells_left}
+use Rattle.cells.proofs.Weights.{cell_weight, weight_sum, weighs_few}
 use Rattle.cells.proofs.held.Tree.weight.Goals as goal
 
-pub loop-i-init : goal.loop-i-init
-loop-i-init c = (weight_none (entries_of c.args.self.bytes.now c.args.self.places.now), omega arith)
-
-pub loop-i-preserved : goal.loop-i-preserved
-loop-i-preserved c =
-    let es = entries_of c.args.self.bytes.now c.args.self.places.now in
-    let many = length_entries c.args.self.bytes.now c.args.self.places.now in
-    let e = entry_of c.cell.result.bytes.now in
-    let more = weight_more es c.loop-i.i e (omega arith) (c.cell.ensures.entry e) in
-    let long = ap length c.value.ensures in
-    let fits = value_long c.cell.result.bytes.now c.cell.result.formed in
-    (omega arith, omega arith)
+pub sum-requires-clause-fits : goal.sum-requires-clause-fits
+sum-requires-clause-fits c =
+    let cells = cut c.args.self.bytes.now c.args.self.places.now in
+    fits_by_from_yields_list cell_weight cells c.map.result _
+    (YieldsList-from_map _ cell_weight (YieldsList-at c.map.ensures.source (YieldsList-from_first bytes_of cells_left cells c.cells.ensures)) c.map.ensures.closure (λ x r q k. search rules))
+    (omega (arith, weight_sum cells, weighs_few _ _ c.args.self.holds, c.requires))
 
 pub returns : goal.returns
 returns c =
-    c.loop-i.invariant.0 ∙ weight_all (entries_of c.args.self.bytes.now c.args.self.places.now) c.loop-i.i (omega (arith, length_entries c.args.self.bytes.now c.args.self.places.now))
+    let cells = cut c.args.self.bytes.now c.args.self.places.now in
+    sum_by_from_yields_List cell_weight cells c.map.result _ c.sum.ensures.ran
+    (YieldsList-from_map _ cell_weight (YieldsList-at c.map.ensures.source (YieldsList-from_first bytes_of cells_left cells c.cells.ensures)) c.map.ensures.closure (λ x r q k. search rules))
+    ∙ sym (weight_sum cells)
