@@ -6,6 +6,5 @@ pub mod Keeps
 pub mod Made
 pub mod Preludes
 pub mod Pushes
-pub mod Sessions
 pub mod Walks
 pub mod Weights

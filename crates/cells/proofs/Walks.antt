@@ -23,6 +23,11 @@ ltb-suc n m = grind (arith, nat_tests)
 ltb-zero : (m : ℕ) → ltb 0 (suc m) ≡ true
 ltb-zero m = grind (arith, nat_tests)
 
+pub some_any : {A : Type 0} (f : A → Bool) (xs : List A) → some f xs ≡ list_any f xs
+unfolding some
+some_any f [] = refl
+some_any f (x ∷ xs) = ap (λ b. f x || b) (some_any f xs)
+
 module _ {A B : Type 0} (f : B → Bool) (g : A → B) where
   pub some_list_any : (xs : List A) → some f (map g xs) ≡ list_any (λ x. f (g x)) xs
   unfolding some

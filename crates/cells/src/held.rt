@@ -7,8 +7,8 @@ ghost use Rattle.cells.specs.Searches.{Found};
 ghost use Rattle.cells.specs.Props.{Holds-prop};
 
 use crate::cell::Cell;
+use crate::prelude::Prelude;
 use lent_bytes::counts::{Count, Session};
-use lent_bytes::numbers::{read_u32, read_u64};
 use lent_bytes::paths::Path;
 
 // A tree: its bytes, and the places where its entries begin, the last where they end.
@@ -24,46 +24,43 @@ impl<'a> Tree<'a> {
     ghost use Rattle.cells.specs.Walks.{cells_left};
 
     // The part of a tree before its entries.
-    pub fn prelude(self) -> &'a [u8]
-        ensures value { result.now ≡ prelude_of self.entry.bytes.now self.entry.places.now }
-        ensures len { length result.now ≡ slice_index self.entry.places.now 0 }
-        ensures long { length result.now ≡ begins_at result.now }
+    pub fn prelude(self) -> Prelude<'a>
+        ensures value { result.bytes.now ≡ prelude_of self.entry.bytes.now self.entry.places.now }
+        ensures len { length result.bytes.now ≡ slice_index self.entry.places.now 0 }
     {
-        &self.bytes[0..self.places[0] as usize]
+        Prelude {
+            bytes: &self.bytes[0..self.places[0] as usize],
+        }
     }
 
     // How many changes a tree has had.
     pub fn changes(self) -> Count
         ensures { result.0 ≡ (tree_state self.entry).changes }
     {
-        Count(read_u64(self.prelude(), 0))
+        self.prelude().changes()
     }
 
     // How many entries were ever made at its top.
     pub fn top(self) -> Count
         ensures { result.0 ≡ (tree_state self.entry).top }
     {
-        Count(read_u64(self.prelude(), 8))
+        self.prelude().top()
     }
 
     // How many sessions are open.
     pub fn session_count(self) -> u32
         ensures { result ≡ length (tree_state self.entry).sessions }
     {
-        read_u32(self.prelude(), 24)
+        self.prelude().session_count()
     }
 
     // Is a session open.
     pub fn is_open(self, session: Session) -> bool
         ensures { result ≡ some (nat_eq session.0) (tree_state self.entry).sessions }
     {
-        let prelude = self.prelude();
-        for i in 0..read_u32(prelude, 24) as usize {
-            if session.0 == read_u64(prelude, 28 + 8 * i) {
-                return true;
-            }
-        }
-        false
+        self.prelude()
+            .sessions()
+            .any(|open| session.0 == open.0)
     }
 
     // How many entries there are.

@@ -4,3 +4,4 @@
 pub mod cell;
 pub mod draft;
 pub mod held;
+pub mod prelude;

@@ -7,4 +7,4 @@ use Rattle.cells.proofs.held.Tree.session_count.Goals as goal
 pub returns : goal.returns
 returns c =
     let pre = prelude_of c.args.self.bytes.now c.args.self.places.now in
-    c.read_u32.ensures ∙ ap (λ (bs : List ℕ). be32 bs 24) c.prelude.ensures.value ∙ sym (length_numbers (be32 pre 24) pre 28)
+    c.session_count.ensures ∙ ap (λ (bs : List ℕ). be32 bs 24) c.prelude.ensures.value ∙ sym (length_numbers (be32 pre 24) pre 28)
