@@ -15,18 +15,18 @@ push_cell-next-requires c =
     let es = entries_of c.args.tree.bytes.now c.args.tree.places.now in
     let many = length_entries c.args.tree.bytes.now c.args.tree.places.now in
     let count = length-between es c.args.from c.loop-i.i (omega arith) in
-    let low = climb _ _ c.requires.holds c.args.from c.loop-i.i (omega arith) (omega arith) in
-    let high = climb _ _ c.requires.holds (c.loop-i.i + 1) c.args.to (omega arith) (omega arith) in
-    record { drafts = c.loop-i.invariant.drafts; room = omega arith; small = omega arith; more = omega arith; good = c.cell_at.ensures.good }
+    let low = climb _ _ c.args.tree.holds c.args.from c.loop-i.i (omega arith) (omega arith) in
+    let high = climb _ _ c.args.tree.holds (c.loop-i.i + 1) c.args.to (omega arith) (omega arith) in
+    record { drafts = c.loop-i.invariant.drafts; room = omega arith; small = omega arith; more = omega arith }
 
 pub loop-i-preserved : goal.loop-i-preserved
 loop-i-preserved c =
     let es = entries_of c.args.tree.bytes.now c.args.tree.places.now in
-    let e = entry_of c.cell_at.result.now in
+    let e = entry_of c.cell.result.bytes.now in
     let many = length_entries c.args.tree.bytes.now c.args.tree.places.now in
-    let low = climb _ _ c.requires.holds c.args.from c.loop-i.i (omega arith) (omega arith) in
+    let low = climb _ _ c.args.tree.holds c.args.from c.loop-i.i (omega arith) (omega arith) in
     grown_as _ _ _ _
-    (ap (λ x. between c.args.from c.loop-i.i es ++ x ∷ []) (sym (c.cell_at.ensures.entry e)) ∙ sym (between_more es c.args.from c.loop-i.i e (omega arith) (omega arith)))
+    (ap (λ x. between c.args.from c.loop-i.i es ++ x ∷ []) (sym (c.cell.ensures.entry e)) ∙ sym (between_more es c.args.from c.loop-i.i e (omega arith) (omega arith)))
     (omega arith)
     (grown_then c.loop-i.invariant c.push_cell-next.ensures)
 

@@ -1,37 +1,61 @@
-use Rattle.std.proofs.Common.{not, sym, refl, ap, arith}
+use Rattle.std.proofs.Common.{◌≡◌, ℕ, ◌+◌, ◌-◌, [], ◌∷◌, not, length, get_or, sym, refl, ap, ◌∙◌, arith, length-append}
 use Rattle.model.specs.Tree.{Entry, at}
 use Rattle.lent_bytes.specs.Paths.{path_of}
 use Rattle.cells.specs.Layout.{entry_of, entries_of}
+use Rattle.cells.specs.Walks.{cells_left}
 use Rattle.cells.proofs.Cells.{length_entries}
+use Rattle.cells.proofs.Pushes.{climb, spans}
+use Rattle.cells.proofs.Walks.{at_turn, at_end}
 use Rattle.drafts.proofs.Grows.{grown_none, grown_then, grown_as}
 use Rattle.cells.proofs.Keeps.{keep_none, keep_more, keep_skip, keep_all}
 use Rattle.drafts.proofs.writing.push_others.Goals as goal
 
-pub loop-i-init : goal.loop-i-init
-loop-i-init c =
+pub loop-cell-init : goal.loop-cell-init
+loop-cell-init c =
     let es = entries_of c.args.tree.bytes.now c.args.tree.places.now in
-    (grown_as _ _ 0 _ (keep_none (λ (e : Entry). not (at (path_of c.args.path.now) e)) es) (omega arith) (grown_none _ _ _ c.requires.drafts), omega arith, omega arith)
+    (grown_as _ _ 0 _ (keep_none (λ (e : Entry). not (at (path_of c.args.path.names.now) e)) es) (omega arith) (grown_none _ _ _ c.requires.drafts), omega arith, omega arith)
 
-pub loop-i-preserved-then-is_at : goal.loop-i-preserved-then-is_at
-loop-i-preserved-then-is_at c =
-    let es = entries_of c.args.tree.bytes.now c.args.tree.places.now in
-    let many = length_entries c.args.tree.bytes.now c.args.tree.places.now in
-    let e = entry_of c.cell_at-cell.result.now in
-    let f = λ (x : Entry). not (at (path_of c.args.path.now) x) in
-    let no = ap not (sym c.if-is_at.ensures) in
-    (grown_as _ _ _ _ (keep_skip f es c.loop-i.i e (omega arith) (c.cell_at-cell.ensures.entry e) no) refl c.loop-i.invariant.0, omega arith, omega arith)
+pub push_cell-next-requires : goal.push_cell-next-requires
+push_cell-next-requires c =
+    let t = c.args.tree in
+    let all = ap cells_left c.into_iter-cell-iterator.ensures.into_iter_gives ∙ c.cells-cell-items.ensures in
+    let turn = at_turn t.bytes.now t.places.now t.holds _ all c.loop-cell.yielded _ c.loop-cell.yielded_by _ _ c.in-Some.cell c.in-Some.is c.next.ensures.steps in
+    let on = climb _ _ t.holds (length c.loop-cell.yielded + 1) (length t.places.now - 1) (omega (arith, turn.within)) (omega (arith, turn.within)) in
+    let end = (spans t.bytes.now t.places.now (length c.loop-cell.yielded) t.holds turn.within).end in
+    record {
+      drafts = c.loop-cell.invariant.0.drafts;
+      room = omega (arith, turn.len, on, end, c.loop-cell.invariant.1, c.requires.room);
+      small = omega (arith, turn.len, on, end, c.loop-cell.invariant.1, c.requires.room, c.requires.small);
+      more = omega (arith, turn.within, c.loop-cell.invariant.2, c.requires.more);
+    }
 
-pub loop-i-preserved : goal.loop-i-preserved
-loop-i-preserved c =
-    let es = entries_of c.args.tree.bytes.now c.args.tree.places.now in
-    let many = length_entries c.args.tree.bytes.now c.args.tree.places.now in
-    let e = entry_of c.cell_at-cell.result.now in
-    let f = λ (x : Entry). not (at (path_of c.args.path.now) x) in
-    let yes = ap not (sym c.if-is_at.ensures) in
+pub loop-cell-preserved-then-not-is_at : goal.loop-cell-preserved-then-not-is_at
+loop-cell-preserved-then-not-is_at c =
+    let t = c.args.tree in
+    let es = entries_of t.bytes.now t.places.now in
+    let n = length c.loop-cell.yielded in
+    let x = c.in-Some.cell in
+    let turn = at_turn t.bytes.now t.places.now t.holds _ (ap cells_left c.into_iter-cell-iterator.ensures.into_iter_gives ∙ c.cells-cell-items.ensures) c.loop-cell.yielded _ c.loop-cell.yielded_by _ _ x c.in-Some.is c.next.ensures.steps in
+    let e = entry_of x.bytes.now in
+    let yes = ap not (sym c.if-not-is_at.ensures) in
     let g = c.push_cell-next.ensures in
-    (grown_as _ _ _ _ (keep_more f es c.loop-i.i e (omega arith) (c.cell_at-cell.ensures.entry e) yes) (omega (arith, g.used, c.loop-i.invariant.0.used)) (grown_then c.loop-i.invariant.0 g), omega (arith, g.used, c.cell_at-cell.ensures.len), omega (arith, g.count))
+    rw (length-append c.loop-cell.yielded (x ∷ []))
+    (grown_as _ _ _ _ (keep_more (λ (y : Entry). not (at (path_of c.args.path.names.now) y)) es n e (omega (arith, turn.within, length_entries t.bytes.now t.places.now)) (turn.entry e) yes) (omega (arith, g.used, c.loop-cell.invariant.0.used)) (grown_then c.loop-cell.invariant.0 g), omega (arith, g.used, turn.len, c.loop-cell.invariant.1), omega (arith, g.count, c.loop-cell.invariant.2))
+
+pub loop-cell-preserved : goal.loop-cell-preserved
+loop-cell-preserved c =
+    let t = c.args.tree in
+    let es = entries_of t.bytes.now t.places.now in
+    let n = length c.loop-cell.yielded in
+    let x = c.in-Some.cell in
+    let turn = at_turn t.bytes.now t.places.now t.holds _ (ap cells_left c.into_iter-cell-iterator.ensures.into_iter_gives ∙ c.cells-cell-items.ensures) c.loop-cell.yielded _ c.loop-cell.yielded_by _ _ x c.in-Some.is c.next.ensures.steps in
+    let e = entry_of x.bytes.now in
+    let no = ap not (sym c.if-not-is_at.ensures) in
+    rw (length-append c.loop-cell.yielded (x ∷ []))
+    (grown_as _ _ _ _ (keep_skip (λ (y : Entry). not (at (path_of c.args.path.names.now) y)) es n e (omega (arith, turn.within, length_entries t.bytes.now t.places.now)) (turn.entry e) no) refl c.loop-cell.invariant.0, omega (arith, turn.len, c.loop-cell.invariant.1), omega (arith, c.loop-cell.invariant.2))
 
 pub returns : goal.returns
 returns c =
-    let es = entries_of c.args.tree.bytes.now c.args.tree.places.now in
-    grown_as _ _ _ _ (keep_all _ es c.loop-i.i (omega (arith, length_entries c.args.tree.bytes.now c.args.tree.places.now))) refl c.loop-i.invariant.0
+    let t = c.args.tree in
+    let es = entries_of t.bytes.now t.places.now in
+    grown_as _ _ _ _ (keep_all _ es (length c.loop-cell.yielded) (at_end t.bytes.now t.places.now t.holds _ (ap cells_left c.into_iter-cell-iterator.ensures.into_iter_gives ∙ c.cells-cell-items.ensures) c.loop-cell.yielded _ c.loop-cell.yielded_by _ _ c.in-None.is c.next.ensures.steps)) refl c.loop-cell.invariant.0

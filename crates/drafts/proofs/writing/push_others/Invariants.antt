@@ -1,11 +1,12 @@
-use Rattle.std.proofs.Common.{◌+◌, ◌-◌, ◌≤◌, not, get_or, take}
+use Rattle.std.proofs.Common.{◌+◌, ◌-◌, ◌≤◌, not, length, get_or, take}
 use Rattle.model.specs.Tree.{Entry, at, keep}
 use Rattle.lent_bytes.specs.Paths.{path_of}
 use Rattle.cells.specs.Layout.{entries_of}
 use Rattle.cells.specs.Drafts.{Grown}
 use Rattle.drafts.proofs.writing.push_others.Given as goal
 
-abbrev pub invariant-loop-i : goal.invariant-loop-i
-invariant-loop-i l =
-    Grown l.initial.out l.initial.places l.initial.next (keep (λ (e : Entry). not (at (path_of l.path) e)) (take l.i (entries_of l.tree.bytes.now l.tree.places.now))) (l.next.used - l.initial.next.used) l.out l.places l.next
-    × (l.next.used + get_or l.tree.places.now 0 0 ≤ l.initial.next.used + get_or l.tree.places.now l.i 0) × (l.next.count ≤ l.initial.next.count + l.i)
+abbrev pub invariant-loop-cell : goal.invariant-loop-cell
+invariant-loop-cell l =
+    let n = length l.yielded in
+    Grown l.initial.out l.initial.places l.initial.next (keep (λ (e : Entry). not (at (path_of l.path.names.now) e)) (take n (entries_of l.tree.bytes.now l.tree.places.now))) (l.next.used - l.initial.next.used) l.out l.places l.next
+    × (l.next.used + get_or l.tree.places.now 0 0 ≤ l.initial.next.used + get_or l.tree.places.now n 0) × (l.next.count ≤ l.initial.next.count + n)
