@@ -1,5 +1,5 @@
 -- Going through a tree entry by entry: what is left after each, and what a search over all of them answers. Assumes nothing.
-use Rattle.std.proofs.Common.{◌≡◌, ℕ, zero, suc, ◌+◌, ◌<◌, ◌≤◌, Bool, true, false, cond, not, ◌||◌, List, [], ◌∷◌, map, length, get_or, take, drop, Some, None, Option, sym, refl, ap, ◌∙◌, subst, add-one, arith}
+use Rattle.std.proofs.Common.{◌≡◌, ℕ, zero, suc, ◌+◌, ◌-◌, ◌<◌, ◌≤◌, Bool, true, false, cond, not, ◌||◌, List, [], ◌∷◌, map, length, get_or, take, drop, Some, None, Option, sym, refl, ap, ◌∙◌, subst, add-one, arith}
 use Rattle.std.proofs.Math.Seq.{drop-cons, drop-length}
 use Rattle.std.specs.List.{list_any, position_or_len}
 use Rattle.std.proofs.lemmas.Bool.Decides.{nat_tests}
@@ -87,3 +87,7 @@ module _ (mem ps : List ℕ) (h : Holds mem ps) (s : Cells) (all : cells_left s 
 
   pub at_end : r ≡ None → Steps t r u → length (entries_of mem ps) ≤ length xs
   at_end is step = omega (arith, (YieldsList-end (YieldsList-from_first bytes_of cells_left (cut mem ps) all) xs t y r u is step).1, length_entries mem ps, length_cut mem ps)
+
+  -- no more came than there are
+  pub fewer : r ≡ None → Steps t r u → length xs ≤ length ps - 1
+  fewer is step = omega (arith, (YieldsList-end (YieldsList-from_first bytes_of cells_left (cut mem ps) all) xs t y r u is step).1, length_cut mem ps)

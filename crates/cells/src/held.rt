@@ -2,9 +2,10 @@
 ghost use Rattle.std.specs.Prelude.{◌≡◌, ◌+◌, ◌<◌, [], length, IfSome, nat_eq, slice_index, slice_index_or};
 ghost use Rattle.model.specs.Tree.{Entry, at, is_kid, some, weight_of};
 ghost use Rattle.lent_bytes.specs.Paths.{path_of};
-ghost use Rattle.cells.specs.Layout.{begins_at, cut, entry_of, Holds, prelude_of};
+ghost use Rattle.cells.specs.Layout.{cut, entry_of, Holds, prelude_of, state_of};
 ghost use Rattle.cells.specs.Searches.{Found};
-ghost use Rattle.cells.specs.Props.{Holds-prop};
+ghost use Rattle.cells.specs.Fits.{Calm, Fits};
+ghost use Rattle.cells.specs.Props.{Fits-prop, Holds-prop};
 
 use crate::cell::Cell;
 use crate::prelude::Prelude;
@@ -143,4 +144,13 @@ impl<'a> Iterator for Cells<'a> {
         self.at += 1;
         Some(cell)
     }
+}
+
+// A tree that fits its room, and of which there may be another change.
+#[derive(Clone, Copy)]
+pub struct Current<'a> {
+    pub tree: Tree<'a>,
+    pub room: u64,
+    ghost fits: { Fits room (state_of tree.bytes.now tree.places.now) } by { Fits-prop room (state_of tree.bytes.now tree.places.now) },
+    ghost calm: { Calm (state_of tree.bytes.now tree.places.now) },
 }

@@ -27,17 +27,26 @@ pub fn check_path(path: &[u8]) -> bool
     count > 0
 }
 
-// Where the last name of a path begins: what is before it is the path above.
-pub fn last_name(path: &[u8]) -> usize
-    requires spells { Spells path.now }
-    requires some { 0 < length path.now }
-    ensures { LastAt path.now result }
-{
-    let mut at = 0;
-    let mut end = 1 + path[0] as usize;
-    while end < path.len() {
-        at = end;
-        end = at + 1 + path[at] as usize;
+impl<'a> Path<'a> {
+    // Are its names in range.
+    pub fn is_ok(self) -> bool
+        ensures { result ≡ path_ok (path_of self.entry.names.now) }
+    {
+        check_path(self.names)
     }
-    at
+
+    // Where its last name begins: what is before it is the path above.
+    pub fn last_name(self) -> usize
+        requires { 0 < length self.names.now }
+        ensures { LastAt self.entry.names.now result }
+    {
+        let names = self.names;
+        let mut at = 0;
+        let mut end = 1 + names[0] as usize;
+        while end < names.len() {
+            at = end;
+            end = at + 1 + names[at] as usize;
+        }
+        at
+    }
 }

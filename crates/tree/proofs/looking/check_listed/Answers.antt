@@ -1,25 +1,32 @@
-use Rattle.std.proofs.Common.{arith}
-use Rattle.std.proofs.lemmas.Bool.Decides.{not_from_Decides}
+use Rattle.std.proofs.Common.{◌≡◌, Some, None, Err, sym, subst, arith}
+use Rattle.model.specs.Tree.{at}
+use Rattle.lent_bytes.specs.Paths.{path_of}
 use Rattle.cells.specs.Layout.{state_of}
+use Rattle.cells.specs.Searches.{Found}
 use Rattle.cells.proofs.Firsts.{some_first}
-use Rattle.tree.proofs.Seeks.{is_false}
+use Rattle.tree.specs.declared.refusal.Refusal.TheVariants.{NotThere}
 use Rattle.tree.proofs.Tops.{top_none, top_some}
 use Rattle.tree.proofs.Looks.{list_top, list_range, list_missing, list_found}
 use Rattle.tree.proofs.looking.check_listed.Goals as goal
 
-pub returns-then-path-eq0 : goal.returns-then-path-eq0
-returns-then-path-eq0 c = λ r. list_top _ (state_of c.args.tree.bytes.now c.args.tree.places.now) r (top_none c.args.path.now c.if-path-eq0.true)
+pub returns-then-is_empty : goal.returns-then-is_empty
+returns-then-is_empty c = λ r. list_top _ (state_of c.args.tree.bytes.now c.args.tree.places.now) r (top_none c.args.path.names.now (grind arith))
 
-pub returns-then-not-check_path : goal.returns-then-not-check_path
-returns-then-not-check_path c = λ r.
-    list_range _ (state_of c.args.tree.bytes.now c.args.tree.places.now) r (top_some c.args.path.now c.requires.spells (omega arith))
-    (is_false _ (λ t. not_from_Decides _ c.check_path.ensures c.if-not-check_path.true (c.requires.spells, t)))
+pub returns-then-not-is_ok : goal.returns-then-not-is_ok
+returns-then-not-is_ok c = λ r.
+    list_range _ (state_of c.args.tree.bytes.now c.args.tree.places.now) r (top_some c.args.path.names.now c.args.path.spells (grind arith)) (sym c.if-not-is_ok.ensures)
 
-pub returns-in-Some : goal.returns-in-Some
-returns-in-Some c = λ r.
+pub returns-in_err-ok_or : goal.returns-in_err-ok_or
+returns-in_err-ok_or c =
     let s = state_of c.args.tree.bytes.now c.args.tree.places.now in
-    list_found _ s r (top_some c.args.path.now c.requires.spells (omega arith)) (c.check_path.ensures.0 c.if-not-check_path.false).1 (some_first _ s.entries _ c.in-Some.ensures.found)
+    let p = path_of c.args.path.names.now in
+    let none : c.find.result ≡ None = grind arith in
+    let is : c.from_residual.result ≡ Err NotThere = grind arith in
+    rw is (λ r. list_missing p s r (top_some c.args.path.names.now c.args.path.spells (grind arith)) (sym c.if-not-is_ok.ensures) (subst (Found (at p) s.entries) none c.find.ensures.found))
 
-pub returns-in-None : goal.returns-in-None
-returns-in-None c = λ r.
-    list_missing _ (state_of c.args.tree.bytes.now c.args.tree.places.now) r (top_some c.args.path.now c.requires.spells (omega arith)) (c.check_path.ensures.0 c.if-not-check_path.false).1 c.in-None.ensures.found
+pub returns : goal.returns
+returns c = λ r.
+    let s = state_of c.args.tree.bytes.now c.args.tree.places.now in
+    let p = path_of c.args.path.names.now in
+    let some : c.find.result ≡ Some c.in_ok-ok_or.field-0 = grind arith in
+    list_found p s r (top_some c.args.path.names.now c.args.path.spells (grind arith)) (sym c.if-not-is_ok.ensures) (some_first (at p) s.entries _ (subst (Found (at p) s.entries) some c.find.ensures.found))

@@ -1,32 +1,31 @@
-use Rattle.std.proofs.Common.{length, ap, arith}
-use Rattle.std.proofs.lemmas.Bool.Decides.{not_from_Decides}
-use Rattle.cells.specs.declared.cell.Head.{Head}
-use Rattle.cells.specs.Layout.{state_of}
-use Rattle.tree.proofs.Seeks.{is_false}
+use Rattle.std.proofs.Common.{◌≡◌, Some, None, Err, Result, sym, ap, subst, arith}
+use Rattle.model.specs.Tree.{at}
+use Rattle.lent_bytes.specs.Paths.{path_of}
+use Rattle.cells.specs.Layout.{entries_of, state_of}
+use Rattle.cells.specs.Searches.{Found}
+use Rattle.tree.specs.declared.looking.Seen.{Seen}
+use Rattle.tree.specs.declared.refusal.Refusal.{Refusal}
+use Rattle.tree.specs.declared.refusal.Refusal.TheVariants.{NotThere}
+use Rattle.tree.specs.Looking.{entry_told}
 use Rattle.tree.proofs.Looks.{look_range, look_missing, look_found}
-use Rattle.tree.proofs.Weighs.{head_value}
 use Rattle.tree.proofs.looking.look.Goals as goal
 
-pub returns-then-not-check_path : goal.returns-then-not-check_path
-returns-then-not-check_path c = record {
-  answer = λ room. look_range room _ (state_of c.args.tree.bytes.now c.args.tree.places.now) (is_false _ (λ t. not_from_Decides _ c.check_path.ensures c.if-not-check_path.true (c.requires.spells, t)));
+pub returns-then-not-is_ok : goal.returns-then-not-is_ok
+returns-then-not-is_ok c = record {
+  answer = λ room. look_range room _ (state_of c.args.tree.bytes.now c.args.tree.places.now) (sym c.if-not-is_ok.ensures);
   few = tt;
 }
 
-pub returns-in-Some : goal.returns-in-Some
-returns-in-Some c =
-    let good = c.cell_at-cell.ensures.good in
-    let long = head_value c.cell_at-cell.result.now c.read_head.result c.read_head.ensures good in
-    let head = ap (λ (h : Head). h.value_len) c.read_head.ensures in
-    record {
-      answer = λ room.
-          look_found room _ (state_of c.args.tree.bytes.now c.args.tree.places.now) (c.check_path.ensures.0 c.if-not-check_path.false).1 c.in-Some.i c.cell_at-cell.result.now _ c.read_head.result
-          c.in-Some.ensures.found c.cell_at-cell.ensures.entry c.read_head.ensures c.value_in.ensures;
-      few = omega (arith, ap length c.value_in.ensures, good.short);
-    }
+pub returns-in_err-i-clause-answer : goal.returns-in_err-i-clause-answer
+returns-in_err-i-clause-answer c = λ room.
+    let s = state_of c.args.tree.bytes.now c.args.tree.places.now in
+    let none : c.find.result ≡ None = grind arith in
+    let is : c.from_residual.result ≡ Err NotThere = grind arith in
+    rw is (look_missing room _ s (sym c.if-not-is_ok.ensures) (subst (Found (at (path_of c.args.path.names.now)) s.entries) none c.find.ensures.found))
 
-pub returns-in-None : goal.returns-in-None
-returns-in-None c = record {
-  answer = λ room. look_missing room _ (state_of c.args.tree.bytes.now c.args.tree.places.now) (c.check_path.ensures.0 c.if-not-check_path.false).1 c.in-None.ensures.found;
-  few = tt;
-}
+pub returns-clause-answer : goal.returns-clause-answer
+returns-clause-answer c = λ room.
+    let s = state_of c.args.tree.bytes.now c.args.tree.places.now in
+    let some : c.find.result ≡ Some c.in_ok-i.i = grind arith in
+    look_found room _ s (sym c.if-not-is_ok.ensures) c.in_ok-i.i c.cell-cell.result.bytes.now _ c.head.result
+    (subst (Found (at (path_of c.args.path.names.now)) s.entries) some c.find.ensures.found) c.cell-cell.ensures.entry c.head.ensures c.value.ensures.value
