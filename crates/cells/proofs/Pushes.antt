@@ -95,6 +95,11 @@ last_place (o ∷ e ∷ ps) =
     let b : length (e ∷ ps) - 1 ≡ length ps = omega arith in
     last_place (e ∷ ps) ∙ ap (λ n. get_or (e ∷ ps) n 0) b ∙ sym (ap (λ n. get_or (o ∷ e ∷ ps) n 0) a)
 
+pub ends_at : (m ps : List ℕ) (k : ℕ) → Holds m ps → k + 1 ≡ length ps → get_or ps k 0 ≡ length m
+ends_at m ps k h e =
+    let last : k ≡ length ps - 1 = omega arith in
+    rw last (sym (last_place ps) ∙ h.ends)
+
 -- how the places around an entry lie
 pub record Spans (m ps : List ℕ) (i : ℕ) : Type 0 where
   pub first : get_or ps 0 0 ≤ get_or ps i 0

@@ -4,84 +4,72 @@
 ghost use Rattle.std.specs.Prelude.{◌≡◌, false, [], ◌∷◌, IfOk, nat_lt};
 ghost use Rattle.model.specs.Tree.{acts, does, Do};
 ghost use Rattle.calls.specs.Reading.{act_of};
-ghost use Rattle.cells.specs.Layout.{Holds, state_of};
+ghost use Rattle.cells.specs.Entries.{tree_state};
 ghost use Rattle.cells.specs.Drafts.{drafting, Drafts};
-ghost use Rattle.cells.specs.Fits.{Calm, Fits, Suits};
+ghost use Rattle.cells.specs.Fits.{Fits, Suits};
 ghost use Rattle.tree.specs.Answers.{step_of, made_by, numbered, out_of};
 ghost use Rattle.model.specs.Laws.{AllOrNone};
 ghost use Rattle.doing.specs.Laws.{FitsStays, RefusedKeeps};
-ghost use Rattle.tree.specs.Steps.{counting, weighed, Ready};
+ghost use Rattle.tree.specs.Steps.{counting, weighed};
 
 use calls::types::{Act, ActKind};
 use cells::draft::Size;
-use cells::held::{Tree, changes_of};
+use cells::held::{Current, Tree};
 use changing::acts::{check, drop, put};
 use lent_bytes::counts::Count;
 use making::make;
+use tree::base::Base;
 use tree::refusal::Refusal;
 
 // One act, by its kind.
 pub fn do_act(
-    tree: Tree,
-    room: u64,
-    act: Act,
-    changes: Count,
+    base: Base<'_>,
+    act: Act<'_>,
     out: &mut [u8],
     places: &mut [u32],
 ) -> Result<Size, Refusal>
-    requires holds { Holds tree.bytes.now tree.places.now }
-    requires ready { Ready room (state_of tree.bytes.now tree.places.now) }
-    requires suits { Suits room out.old places.old }
+    requires suits { Suits base.room out.old places.old }
     requires plain { numbered act.kind ≡ false }
-    ensures step { step_of (made_by (act_of act.entry)) result out.new places.new ≡ counting changes.0 (weighed room (state_of tree.entry.bytes.now tree.entry.places.now) (acts (act_of act.entry) (state_of tree.entry.bytes.now tree.entry.places.now))) }
+    ensures step { step_of (made_by (act_of act.entry)) result out.new places.new ≡ counting base.entry.changes.0 (weighed base.entry.room (tree_state base.entry.tree) (acts (act_of act.entry) (tree_state base.entry.tree))) }
     ensures drafts { IfOk result (λ s. Drafts out.new places.new s) }
 {
     match act.kind {
         ActKind::Make {
             numbered: _,
             session,
-        } => {
-            make(
-                tree, room, act.path.names, act.value, session, changes, out, places,
-            )
-        }
-        ActKind::Put(expected) => {
-            put(
-                tree, room, act.path.names, act.value, expected, changes, out, places,
-            )
-        }
-        ActKind::Drop(expected) => drop(tree, room, act.path.names, expected, changes, out, places),
-        ActKind::Check(expected) => check(tree, room, act.path.names, expected, changes, out, places),
+        } => make(base, act.path, act.value, session, out, places),
+        ActKind::Put(expected) => put(base, act.path, act.value, expected, out, places),
+        ActKind::Drop(expected) => drop(base, act.path, expected, out, places),
+        ActKind::Check(expected) => check(base, act.path, expected, out, places),
     }
 }
 
 // May there be another change: there were fewer than 2^56.
-pub fn is_calm(tree: Tree) -> bool
-    requires { Holds tree.bytes.now tree.places.now }
-    ensures { result ≡ nat_lt (state_of tree.entry.bytes.now tree.entry.places.now).changes 72057594037927936 }
+pub fn is_calm(tree: Tree<'_>) -> bool
+    ensures { result ≡ nat_lt (tree_state tree.entry).changes 72057594037927936 }
 {
-    changes_of(tree).0 < 72057594037927936
+    tree.changes().0 < 72057594037927936
 }
 
 // A call of one act: the answer, and the tree that it leaves.
 pub fn do_one(
-    tree: Tree,
-    room: u64,
-    act: Act,
+    current: Current<'_>,
+    act: Act<'_>,
     out: &mut [u8],
     places: &mut [u32],
 ) -> Result<Size, Refusal>
-    requires holds { Holds tree.bytes.now tree.places.now }
-    requires fits { Fits room (state_of tree.bytes.now tree.places.now) }
-    requires calm { Calm (state_of tree.bytes.now tree.places.now) }
-    requires suits { Suits room out.old places.old }
+    requires suits { Suits current.room out.old places.old }
     requires plain { numbered act.kind ≡ false }
-    ensures answer { out_of (made_by (act_of act.entry)) result out.new places.new (state_of tree.entry.bytes.now tree.entry.places.now) ≡ does room (Do (act_of act.entry ∷ [])) (state_of tree.entry.bytes.now tree.entry.places.now) }
+    ensures answer { out_of (made_by (act_of act.entry)) result out.new places.new (tree_state current.entry.tree) ≡ does current.entry.room (Do (act_of act.entry ∷ [])) (tree_state current.entry.tree) }
     ensures drafts { IfOk result (λ s. Drafts out.new places.new s) }
-    ensures fits { IfOk result (λ s. Fits room (drafting out.new places.new s)) }
+    ensures fits { IfOk result (λ s. Fits current.entry.room (drafting out.new places.new s)) }
 {
-    let changes = Count(changes_of(tree).0 + 1);
-    do_act(tree, room, act, changes, out, places)
+    let base = Base {
+        tree: current.tree,
+        room: current.room,
+        changes: Count(current.tree.changes().0 + 1),
+    };
+    do_act(base, act, out, places)
 }
 
 // A state that fits a room still does after every call.

@@ -1,4 +1,4 @@
-use Rattle.std.proofs.Common.{[], ◌∙◌, arith}
+use Rattle.std.proofs.Common.{◌≡◌, Err, [], ◌∙◌, arith}
 use Rattle.model.specs.Tree.{Good, weight}
 use Rattle.cells.specs.Layout.{state_of}
 use Rattle.tree.proofs.Weighs.{space, not_over, refuse, done}
@@ -8,20 +8,21 @@ use Rattle.changing.proofs.acts.check.Goals as goal
 
 pub copy_all-requires : goal.copy_all-requires
 copy_all-requires c =
-    let room = space c.args.tree.bytes.now c.args.tree.places.now c.requires.holds c.requires.ready.few in
-    record { holds = c.requires.holds; bytes = omega arith; small = omega arith; words = omega arith }
+    let room = space c.args.base.tree.bytes.now c.args.base.tree.places.now c.args.base.tree.holds c.args.base.ready.few in
+    record { bytes = omega arith; small = omega arith; words = omega arith }
 
-pub returns-in-Err : goal.returns-in-Err
-returns-in-Err c =
-    let s = state_of c.args.tree.bytes.now c.args.tree.places.now in
-    record { step = refuse c.args.changes.0 c.args.room s _ _ (check_is _ _ s ∙ c.in-Err.ensures.sought (Good [] s)); drafts = tt }
+pub returns-in_err-find_expected-clause-step : goal.returns-in_err-find_expected-clause-step
+returns-in_err-find_expected-clause-step c =
+    let s = state_of c.args.base.tree.bytes.now c.args.base.tree.places.now in
+    let is : c.from_residual.result ≡ Err c.in_err-find_expected.field-0.0 = grind arith in
+    rw is (refuse c.args.base.changes.0 c.args.base.room s _ _ (check_is _ _ s ∙ c.in_err-find_expected.ensures.sought (Good [] s)))
 
-pub returns-in-Ok : goal.returns-in-Ok
-returns-in-Ok c =
-    let s = state_of c.args.tree.bytes.now c.args.tree.places.now in
+pub returns : goal.returns
+returns c =
+    let s = state_of c.args.base.tree.bytes.now c.args.base.tree.places.now in
     let next = c.copy_all.ensures.next in
     record {
-      step = done c.args.changes.0 c.args.room s _ [] s (check_is _ _ s ∙ c.in-Ok.ensures.sought.0 (Good [] s)) _ (not_over c.args.room (weight s) (weight s) (omega arith))
-          (written c.args.changes.0 _ _ _ next (omega arith) (omega arith) c.top_of.ensures);
+      step = done c.args.base.changes.0 c.args.base.room s _ [] s (check_is _ _ s ∙ c.in_ok-find_expected.ensures.sought.0 (Good [] s)) _ (not_over c.args.base.room (weight s) (weight s) (omega arith))
+          (written c.args.base.changes.0 _ _ _ next (omega arith) (omega arith) c.top.ensures);
       drafts = next.drafts;
     }

@@ -1,12 +1,9 @@
-use Rattle.std.proofs.Common.{◌≡◌, ℕ, ◌+◌, ◌-◌, length, get_or, ap, arith}
+use Rattle.std.proofs.Common.{◌+◌, ◌-◌, length, arith}
 use Rattle.cells.specs.Layout.{entries_of}
 use Rattle.cells.proofs.Cells.{length_entries}
-use Rattle.cells.proofs.Pushes.{spans, length_span}
+use Rattle.cells.proofs.Pushes.{ends_at, spans, length_span}
 use Rattle.drafts.proofs.Grows.{grown_then, grown_as, around}
 use Rattle.drafts.proofs.writing.replace.Goals as goal
-
-len_is : {k n : ℕ} → k + 1 ≡ n → k ≡ n - 1
-len_is e = omega arith
 
 pub push_cells-before-requires : goal.push_cells-before-requires
 push_cells-before-requires c =
@@ -26,7 +23,7 @@ push_cells-requires c =
     let many = length_span c.args.tree.bytes.now c.args.tree.places.now 0 c.args.i (omega arith) in
     let before = c.push_cells-before.ensures in
     let with' = c.push_entry-with.ensures in
-    let last = ap (λ k. get_or c.args.tree.places.now k 0) (len_is c.len.ensures) in
+    let last = ends_at c.args.tree.bytes.now c.args.tree.places.now c.len.result c.args.tree.holds c.len.ensures in
     record { order = omega arith; within = omega arith; drafts = with'.drafts; room = omega arith; small = omega arith; more = omega arith }
 
 pub returns : goal.returns
@@ -34,7 +31,7 @@ returns c =
     let es = entries_of c.args.tree.bytes.now c.args.tree.places.now in
     let at = spans _ _ _ c.args.tree.holds c.requires.within in
     let n = c.len.result in
-    let last = ap (λ k. get_or c.args.tree.places.now k 0) (len_is c.len.ensures) in
+    let last = ends_at c.args.tree.bytes.now c.args.tree.places.now c.len.result c.args.tree.holds c.len.ensures in
     let before = c.push_cells-before.ensures in
     let with' = c.push_entry-with.ensures in
     let after = c.push_cells.ensures in
