@@ -1,9 +1,9 @@
 -- The first that passes, and what follows of it. Assumes nothing.
-use Rattle.std.proofs.Common.{◌≡◌, ℕ, zero, suc, ◌+◌, ◌<◌, ◌≤◌, Bool, true, false, ◌||◌, List, [], ◌∷◌, ◌++◌, length, get_or, take, drop, refl, ap, ◌∙◌, add-one, arith}
+use Rattle.std.proofs.Common.{◌≡◌, ℕ, zero, suc, ◌+◌, ◌<◌, ◌≤◌, Bool, true, false, ◌||◌, List, [], ◌∷◌, ◌++◌, length, get_or, take, drop, is_some, Some, None, Option, sym, refl, ap, ◌∙◌, add-one, arith}
 use Rattle.std.proofs.lemmas.List.{take_more, take_all}
 use Rattle.std.proofs.lemmas.Bool.{or_from, or_parts, cond-true, cond-false}
 use Rattle.model.specs.Tree.{some, find, change}
-use Rattle.cells.specs.Searches.{First}
+use Rattle.cells.specs.Searches.{First, Found}
 
 module _ {A : Type 0} (f : A → Bool) where
   pub some_append : (xs ys : List A) → some f xs ≡ false → some f ys ≡ false → some f (xs ++ ys) ≡ false
@@ -61,3 +61,8 @@ module _ {A : Type 0} (f : A → Bool) where
       cases_or : (a b : Bool) → b ≡ true → a || b ≡ true
       cases_or true b e = refl
       cases_or false b e = e
+
+  -- a search finds something where one passes
+  pub found_some : (xs : List A) (r : Option ℕ) → Found f xs r → is_some r ≡ some f xs
+  found_some xs None h = sym h
+  found_some xs (Some i) h = sym (some_first xs i h)

@@ -13,29 +13,27 @@ use Rattle.making.proofs.count_kid.Goals as goal
 
 pub overflow_add-head : goal.overflow_add-head
 overflow_add-head c =
-    let cell = c.cell_at-cell.result.now in
+    let cell = c.cell-cell.result.bytes.now in
     let es = entries_of c.args.tree.bytes.now c.args.tree.places.now in
-    let low = counts_at cell _ c.read_head-old.ensures 18446744073709551614 es c.args.i (omega (arith, length_entries c.args.tree.bytes.now c.args.tree.places.now)) (c.cell_at-cell.ensures.entry (entry_of cell)) c.requires.counts in
+    let low = counts_at cell _ c.head-old.ensures 18446744073709551614 es c.args.i (omega (arith, length_entries c.args.tree.bytes.now c.args.tree.places.now)) (c.cell-cell.ensures.entry (entry_of cell)) c.requires.counts in
     record { fits = omega (arith, low.1) }
 
 pub replace-requires : goal.replace-requires
 replace-requires c =
     let begun = c.start-begun.ensures.begun in
-    let names = ap (λ (h : Head). h.path_len) c.read_head-old.ensures ∙ sym c.path_in.ensures.len in
-    let value = head_value _ _ c.read_head-old.ensures c.cell_at-cell.ensures.good ∙ sym (ap length c.value_in.ensures) in
-    let lens = ap (λ (h : Head). h.value_len) c.read_head-old.ensures in
+    let names = ap (λ (h : Head). h.path_len) c.head-old.ensures ∙ sym c.path.ensures.len in
+    let value = head_value _ _ c.head-old.ensures c.cell-cell.result.formed ∙ sym (ap length c.value.ensures.value) in
+    let lens = ap (λ (h : Head). h.value_len) c.head-old.ensures in
     record {
-      holds = c.requires.holds;
       within = c.requires.within;
       names = names;
       bytes = value;
-      few = omega (arith, value, lens, c.cell_at-cell.ensures.good.short);
-      spells = c.path_in.ensures.spells;
-      ok = c.path_in.ensures.ok;
+      few = omega (arith, value, lens, c.cell-cell.result.formed.short);
+      ok = c.path.ensures.ok;
       drafts = begun.drafts;
       first = c.start-begun.ensures.used;
       none = begun.count;
-      room = omega (arith, c.cell_at-cell.ensures.good.long, c.cell_at-cell.ensures.len, c.path_in.ensures.len);
+      room = omega (arith, c.cell-cell.result.formed.long, c.cell-cell.ensures.len, c.path.ensures.len);
       small = omega arith;
       more = omega arith;
     }
@@ -46,15 +44,15 @@ returns c =
     let ps = c.args.tree.places.now in
     let es = entries_of mem ps in
     let i = c.args.i in
-    let cell = c.cell_at-cell.result.now in
+    let cell = c.cell-cell.result.bytes.now in
     let grown = c.replace.ensures.grown in
     let many = length_entries mem ps in
-    let value = head_value _ _ c.read_head-old.ensures c.cell_at-cell.ensures.good ∙ sym (ap length c.value_in.ensures) in
-    let lens = ap (λ (h : Head). h.value_len) c.read_head-old.ensures in
-    let entry = kid_entry cell c.path_in.result.now c.value_in.result.now c.read_head-old.result c.read_head-old.ensures c.path_in.ensures.value c.value_in.ensures
-    ∙ ap kid_made (sym (c.cell_at-cell.ensures.entry (entry_of []))) in
+    let value = head_value _ _ c.head-old.ensures c.cell-cell.result.formed ∙ sym (ap length c.value.ensures.value) in
+    let lens = ap (λ (h : Head). h.value_len) c.head-old.ensures in
+    let entry = kid_entry cell c.path.result.names.now c.value.result.now c.head-old.result c.head-old.ensures c.path.ensures.value c.value.ensures.value
+    ∙ ap kid_made (sym (c.cell-cell.ensures.entry (entry_of []))) in
     record {
-      next = next_as _ _ (ap (λ (e : Entry). replaced i e es) entry) (next (ap (λ (t : ℕ). prelude_with c.args.changes.0 t (prelude_of mem ps)) c.top_of.ensures) c.start-begun.ensures.begun grown);
-      used = omega (arith, c.replace.ensures.used, c.cell_at-cell.ensures.good.long, c.cell_at-cell.ensures.len, c.path_in.ensures.len);
+      next = next_as _ _ (ap (λ (e : Entry). replaced i e es) entry) (next (ap (λ (t : ℕ). prelude_with c.args.changes.0 t (prelude_of mem ps)) c.top.ensures) c.start-begun.ensures.begun grown);
+      used = omega (arith, c.replace.ensures.used, c.cell-cell.result.formed.long, c.cell-cell.ensures.len, c.path.ensures.len);
       count = omega (arith, ap (λ (e : Entry). length (replaced i e es)) entry, length_replaced i (kid_made (get_or es i (entry_of []))) es (omega arith));
     }
