@@ -4,9 +4,9 @@ ghost use Rattle.std.specs.List.{AllByRecursion};
 ghost use Rattle.model.specs.Tree.{acts, does, values_in, Do};
 ghost use Rattle.calls.specs.Format.{act_at};
 ghost use Rattle.calls.specs.Reading.{act_of, acts_in, past};
-ghost use Rattle.cells.specs.Layout.{Holds, state_of};
+ghost use Rattle.cells.specs.Entries.{tree_state};
 ghost use Rattle.cells.specs.Drafts.{bytes_in, places_in, Drafts};
-ghost use Rattle.cells.specs.Fits.{Calm, Fits, Suits};
+ghost use Rattle.cells.specs.Fits.{Fits, Suits};
 ghost use Rattle.tree.specs.Answers.{made_by, numbered};
 ghost use Rattle.tree.specs.Steps.{counting, weighed, Ready};
 ghost use Rattle.acts.specs.Several.{brought, made_all, standing, StandsIn, step_at, Plain, Ran, ran_of};
@@ -14,10 +14,11 @@ ghost use Rattle.acts.specs.Several.{brought, made_all, standing, StandsIn, step
 use calls::reading::read_act;
 use calls::types::{Act, ActKind};
 use cells::draft::Size;
-use cells::held::{Tree, changes_of, top_of};
+use cells::held::{Current, Tree};
 use changing::acts::copy_all;
 use doing::do_act;
 use lent_bytes::counts::Count;
+use tree::base::Base;
 use tree::refusal::Refusal;
 
 // Where the tree stands to which the acts so far have led: as it was, or in one of the two buffers.
@@ -51,9 +52,9 @@ fn tree_in<'a>(out: &'a [u8], places: &'a [u32], size: Size) -> Tree<'a>
 
 // One act on the tree where it stands, written into the other buffer.
 fn do_next(
-    tree: Tree,
+    tree: Tree<'_>,
     room: u64,
-    act: Act,
+    act: Act<'_>,
     changes: Count,
     stands: Stands,
     left: &mut [u8],
@@ -70,23 +71,32 @@ fn do_next(
     ensures stands { IfOk result (λ s. StandsIn s tree.entry.bytes.now tree.entry.places.now left.new lefts.new right.new rights.new) }
 {
     match stands {
-        Stands::Last => match do_act(tree, room, act, changes, left, lefts) {
-            Ok(size) => Ok(Stands::Left(size)),
-            Err(refusal) => Err(refusal),
-        },
+        Stands::Last => {
+            let base = Base {
+                tree,
+                room,
+                changes,
+            };
+            let size = do_act(base, act, left, lefts)?;
+            Ok(Stands::Left(size))
+        }
         Stands::Left(size) => {
-            let here = tree_in(left, lefts, size);
-            match do_act(here, room, act, changes, right, rights) {
-                Ok(size) => Ok(Stands::Right(size)),
-                Err(refusal) => Err(refusal),
-            }
+            let base = Base {
+                tree: tree_in(left, lefts, size),
+                room,
+                changes,
+            };
+            let size = do_act(base, act, right, rights)?;
+            Ok(Stands::Right(size))
         }
         Stands::Right(size) => {
-            let here = tree_in(right, rights, size);
-            match do_act(here, room, act, changes, left, lefts) {
-                Ok(size) => Ok(Stands::Left(size)),
-                Err(refusal) => Err(refusal),
-            }
+            let base = Base {
+                tree: tree_in(right, rights, size),
+                room,
+                changes,
+            };
+            let size = do_act(base, act, left, lefts)?;
+            Ok(Stands::Left(size))
         }
     }
 }
@@ -126,8 +136,7 @@ fn too_large(count: u8, acts: &[u8]) -> bool
 
 // Acts one after the other, the first that is refused ends them. The last writes the count of changes afterwards.
 fn run_acts(
-    tree: Tree,
-    room: u64,
+    current: Current<'_>,
     count: u8,
     acts: &[u8],
     left: &mut [u8],
@@ -135,19 +144,17 @@ fn run_acts(
     right: &mut [u8],
     rights: &mut [u32],
 ) -> Result<Stands, Refused>
-    requires holds { Holds tree.bytes.now tree.places.now }
-    requires fits { Fits room (state_of tree.bytes.now tree.places.now) }
-    requires calm { Calm (state_of tree.bytes.now tree.places.now) }
-    requires left { Suits room left.old lefts.old }
-    requires right { Suits room right.old rights.old }
+    requires left { Suits current.room left.old lefts.old }
+    requires right { Suits current.room right.old rights.old }
     requires acts { past act_at count acts.now ≡ Some [] }
     requires plain { AllByRecursion Plain (acts_in count acts.now) }
     requires some { 0 < count }
     requires few { count ≤ 64 }
-    ensures ran { Ran room (acts_in count acts.now) result tree.entry.bytes.now tree.entry.places.now left.new lefts.new right.new rights.new }
-    ensures stands { IfOk result (λ s. StandsIn s tree.entry.bytes.now tree.entry.places.now left.new lefts.new right.new rights.new) }
+    ensures ran { Ran current.entry.room (acts_in count acts.now) result current.entry.tree.bytes.now current.entry.tree.places.now left.new lefts.new right.new rights.new }
+    ensures stands { IfOk result (λ s. StandsIn s current.entry.tree.bytes.now current.entry.tree.places.now left.new lefts.new right.new rights.new) }
 {
-    let before = changes_of(tree);
+    let Current { tree, room } = current;
+    let before = tree.changes();
     let after = Count(before.0 + 1);
     let mut rest = acts;
     let mut stands = Stands::Last;
@@ -179,8 +186,7 @@ fn run_acts(
 
 // A call of several acts: all are done, or none.
 pub fn do_acts(
-    tree: Tree,
-    room: u64,
+    current: Current<'_>,
     count: u8,
     acts: &[u8],
     left: &mut [u8],
@@ -188,16 +194,13 @@ pub fn do_acts(
     right: &mut [u8],
     rights: &mut [u32],
 ) -> Result<Stands, Refused>
-    requires holds { Holds tree.bytes.now tree.places.now }
-    requires fits { Fits room (state_of tree.bytes.now tree.places.now) }
-    requires calm { Calm (state_of tree.bytes.now tree.places.now) }
-    requires left { Suits room left.old lefts.old }
-    requires right { Suits room right.old rights.old }
+    requires left { Suits current.room left.old lefts.old }
+    requires right { Suits current.room right.old rights.old }
     requires acts { past act_at count acts.now ≡ Some [] }
     requires plain { AllByRecursion Plain (acts_in count acts.now) }
-    ensures answer { ran_of (made_all (acts_in count acts.now)) result tree.entry.bytes.now tree.entry.places.now left.new lefts.new right.new rights.new ≡ does room (Do (acts_in count acts.now)) (state_of tree.entry.bytes.now tree.entry.places.now) }
-    ensures stands { IfOk result (λ s. StandsIn s tree.entry.bytes.now tree.entry.places.now left.new lefts.new right.new rights.new) }
-    ensures fits { IfOk result (λ s. Fits room (standing s tree.entry.bytes.now tree.entry.places.now left.new lefts.new right.new rights.new)) }
+    ensures answer { ran_of (made_all (acts_in count acts.now)) result current.entry.tree.bytes.now current.entry.tree.places.now left.new lefts.new right.new rights.new ≡ does current.entry.room (Do (acts_in count acts.now)) (tree_state current.entry.tree) }
+    ensures stands { IfOk result (λ s. StandsIn s current.entry.tree.bytes.now current.entry.tree.places.now left.new lefts.new right.new rights.new) }
+    ensures fits { IfOk result (λ s. Fits current.entry.room (standing s current.entry.tree.bytes.now current.entry.tree.places.now left.new lefts.new right.new rights.new)) }
 {
     if too_large(count, acts) {
         return Err(Refused {
@@ -206,9 +209,10 @@ pub fn do_acts(
         });
     }
     if count == 0 {
-        let changes = Count(changes_of(tree).0 + 1);
-        let size = copy_all(tree, changes, top_of(tree), left, lefts);
+        let tree = current.tree;
+        let changes = Count(tree.changes().0 + 1);
+        let size = copy_all(tree, changes, tree.top(), left, lefts);
         return Ok(Stands::Left(size));
     }
-    run_acts(tree, room, count, acts, left, lefts, right, rights)
+    run_acts(current, count, acts, left, lefts, right, rights)
 }

@@ -82,7 +82,7 @@ pub fn push_entry(
 }
 
 // One more entry as it stands in another tree.
-fn push_cell(out: &mut [u8], places: &mut [u32], size: Size, cell: Cell<'_>) -> Size
+pub fn push_cell(out: &mut [u8], places: &mut [u32], size: Size, cell: Cell<'_>) -> Size
     requires drafts { Drafts out.old places.old size }
     requires room { size.used + length cell.bytes.now ≤ length out.old }
     requires small { size.used + length cell.bytes.now < 4294967296 }

@@ -1,8 +1,7 @@
 -- The tree without a session. Assumes nothing.
 use Rattle.std.proofs.Common.{◌≡◌, ℕ, ◌+◌, ◌*◌, ◌<◌, ◌≤◌, true, false, not, eqb, ltb, List, [], ◌∷◌, ◌++◌, length, get_or, drop, sym, refl, ap, ◌∙◌, arith, length-append}
-use Rattle.std.specs.List.{AllByRecursion, between}
+use Rattle.std.specs.List.{AllByRecursion}
 use Rattle.std.proofs.ByRecursion.{All-weaker}
-use Rattle.std.proofs.lemmas.List.Edits.{between_more, between_none}
 use Rattle.std.proofs.lemmas.List.{get_or-drop}
 use Rattle.std.proofs.lemmas.Bool.{cond-true, cond-false, cond_both, and_parts, ltb-true, leb-true}
 use Rattle.model.specs.Tree.{Entry, State, Out, No, Done, End, does, keep, some}
@@ -70,12 +69,3 @@ module _ (room k : ℕ) (s : State) where
       ◌≡◌ {A = Out} (record { reply = Done []; state = record { changes = s.changes + 1; top = s.top; entries = keep (λ (e : Entry). not (eqb k e.owner)) s.entries; sessions = others k s.sessions; last_session = s.last_session } }) (does room (End k) s)
   unfolding does
   end_is h = sym (cond-true (some (eqb k) s.sessions) _ _ h)
-
--- the part of a list that is one of its elements
-pub one_entry : (es : List Entry) (i : ℕ) (e : Entry) → i < length es → get_or es i e ≡ e → between i (i + 1) es ≡ e ∷ []
-one_entry es i e l is = between_more es i i e (omega arith) l ∙ ap (λ (xs : List Entry). xs ++ (get_or es i e ∷ [])) (between_none es i) ∙ ap (λ (x : Entry). x ∷ []) is
-
-pub others_few : (k : ℕ) (xs : List ℕ) → length (others k xs) ≤ length xs
-unfolding keep
-others_few k [] = omega arith
-others_few k (x ∷ xs) = let more = others_few k xs in cond_both (not (eqb k x)) (x ∷ others k xs) (others k xs) (λ (l : List ℕ). length l ≤ length (x ∷ xs)) (λ _. omega arith) (λ _. omega arith)

@@ -1,7 +1,6 @@
 -- Loops over the sessions besides one: how many, and their bytes. Assumes nothing.
-use Rattle.std.proofs.Common.{◌≡◌, ℕ, suc, ◌+◌, ◌-◌, ◌*◌, ◌<◌, not, eqb, List, [], ◌∷◌, ◌++◌, length, get_or, take, sym, refl, ap, ◌∙◌, append_assoc, append-nil, arith, length-append}
-use native.Mathlib.Nat.{sub-zero}
-use Rattle.std.proofs.lemmas.Bool.{eq-eqb, ne_eqb, cond-true, cond-false}
+use Rattle.std.proofs.Common.{◌≡◌, ℕ, suc, ◌+◌, ◌-◌, ◌*◌, ◌<◌, ◌≤◌, not, eqb, List, [], ◌∷◌, ◌++◌, length, get_or, take, sym, refl, ap, ◌∙◌, append_assoc, append-nil, arith, length-append}
+use Rattle.std.proofs.lemmas.Bool.{eq-eqb, ne_eqb, cond-true, cond-false, cond_both}
 use Rattle.std.specs.List.{AllByRecursion}
 use Rattle.std.proofs.lemmas.List.{get_or-append-add}
 use Rattle.model.specs.Tree.{keep}
@@ -9,7 +8,7 @@ use Rattle.lent_bytes.specs.Numbers.{be64, be8}
 use Rattle.lent_bytes.specs.Writing.{Added}
 use Rattle.lent_bytes.proofs.Rounds.{read_be8, length_be8}
 use Rattle.cells.specs.Layout.{numbers_at}
-use Rattle.cells.proofs.Preludes.{numbers_step, numbers_none, numbers_same}
+use Rattle.cells.proofs.Preludes.{numbers_same}
 use Rattle.sessions.specs.Ending.{others, numbers_bytes}
 
 pub bytes_push : (xs : List ℕ) (x : ℕ) → numbers_bytes (xs ++ (x ∷ [])) ≡ numbers_bytes xs ++ be8 x
@@ -18,30 +17,34 @@ bytes_push [] x = append-nil (be8 x)
 bytes_push (y ∷ xs) x = ap (λ (l : List ℕ). be8 y ++ l) (bytes_push xs x) ∙ sym (append_assoc (be8 y) (numbers_bytes xs) (be8 x))
 
 -- what was passed and what is left of the sessions besides one
-abbrev pub Passed : (k : ℕ) (all done : List ℕ) (n : ℕ) (bs : List ℕ) (i : ℕ) → Type 0
-Passed k all done n bs i = others k all ≡ done ++ others k (numbers_at n bs i)
+abbrev pub Passed : (k : ℕ) (all done rest : List ℕ) → Type 0
+Passed k all done rest = others k all ≡ done ++ others k rest
 
-pub passed_first : (k n : ℕ) (bs : List ℕ) (i : ℕ) → Passed k (numbers_at n bs i) [] (n - 0) bs i
-passed_first k n bs i = ap (λ (m : ℕ). others k (numbers_at m bs i)) (sym (sub-zero n))
+module _ (k : ℕ) (all done rest : List ℕ) (p : Passed k all done rest) (x : ℕ) (rest' : List ℕ) (e : rest ≡ x ∷ rest') where
+  step : others k all ≡ done ++ others k (x ∷ rest')
+  step = p ∙ ap (λ (l : List ℕ). done ++ others k l) e
 
-module _ (k : ℕ) (all done : List ℕ) (n m : ℕ) (bs : List ℕ) (i j : ℕ) (p : Passed k all done n bs i) (e : n ≡ suc m) (f : j ≡ i + 8) where
-  step : others k all ≡ done ++ others k (be64 bs i ∷ numbers_at m bs j)
-  step = p ∙ ap (λ (l : List ℕ). done ++ others k l) (numbers_step n m bs i j e f)
-
-  pub passed_skip : k ≡ be64 bs i → Passed k all done m bs j
+  pub passed_skip : k ≡ x → Passed k all done rest'
   unfolding keep
-  passed_skip h =
-      step ∙ ap (λ (l : List ℕ). done ++ l) (cond-false (not (eqb k (be64 bs i))) (be64 bs i ∷ others k (numbers_at m bs j)) (others k (numbers_at m bs j)) (ap not (eq-eqb k (be64 bs i) h)))
+  passed_skip h = step ∙ ap (λ (l : List ℕ). done ++ l) (cond-false (not (eqb k x)) (x ∷ others k rest') (others k rest') (ap not (eq-eqb k x h)))
 
-  pub passed_more : (k ≡ be64 bs i → ⊥) → Passed k all (done ++ (be64 bs i ∷ [])) m bs j
+  pub passed_more : (k ≡ x → ⊥) → Passed k all (done ++ (x ∷ [])) rest'
   unfolding keep
   passed_more h =
-      step ∙ ap (λ (l : List ℕ). done ++ l) (cond-true (not (eqb k (be64 bs i))) (be64 bs i ∷ others k (numbers_at m bs j)) (others k (numbers_at m bs j)) (ap not (ne_eqb k (be64 bs i) h))) ∙
-      sym (append_assoc done (be64 bs i ∷ []) (others k (numbers_at m bs j)))
+      step ∙ ap (λ (l : List ℕ). done ++ l) (cond-true (not (eqb k x)) (x ∷ others k rest') (others k rest') (ap not (ne_eqb k x h))) ∙ sym (append_assoc done (x ∷ []) (others k rest'))
 
-pub passed_all : (k : ℕ) (all done : List ℕ) (n : ℕ) (bs : List ℕ) (i : ℕ) → n ≡ 0 → Passed k all done n bs i → others k all ≡ done
+pub passed_all : (k : ℕ) (all done rest : List ℕ) → rest ≡ [] → Passed k all done rest → others k all ≡ done
 unfolding keep
-passed_all k all done n bs i e p = p ∙ ap (λ (l : List ℕ). done ++ others k l) (numbers_none n bs i e) ∙ append-nil done
+passed_all k all done rest e p = p ∙ ap (λ (l : List ℕ). done ++ others k l) e ∙ append-nil done
+
+pub others_few : (k : ℕ) (xs : List ℕ) → length (others k xs) ≤ length xs
+unfolding keep
+others_few k [] = omega arith
+others_few k (x ∷ xs) = let more = others_few k xs in cond_both (not (eqb k x)) (x ∷ others k xs) (others k xs) (λ (l : List ℕ). length l ≤ length (x ∷ xs)) (λ _. omega arith) (λ _. omega arith)
+
+-- no more passed than there are
+pub passed_few : (k : ℕ) (all done rest : List ℕ) → Passed k all done rest → length done ≤ length all
+passed_few k all done rest p = omega (arith, ap length p, length-append done (others k rest), others_few k all)
 
 -- numbers that were written are read again
 pub numbers_written : (xs : List ℕ) → AllByRecursion (λ x. x < 18446744073709551616) xs → numbers_at (length xs) (numbers_bytes xs) 0 ≡ xs

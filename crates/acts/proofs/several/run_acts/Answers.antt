@@ -9,7 +9,7 @@ use Rattle.acts.proofs.several.run_acts.Goals as goal
 use Rattle.acts.proofs.several.run_acts.Goals.{else-acts-test, then-acts-test+in-Some+in-Err, then-n-count, else-n-count}
 
 pub acts-init : goal.acts-init
-acts-init c = (refl, acting_first _ _ _ _ c.requires.acts c.requires.plain c.requires.fits c.requires.some, c.requires.holds)
+acts-init c = (refl, acting_first _ _ _ _ c.requires.acts c.requires.plain c.args.current.fits c.requires.some, c.args.current.tree.holds)
 
 pub returns-in_default : goal.returns-in_default
 returns-in_default c = absurd (acting_stop _ _ _ _ _ _ _ c.acts.invariant.1 c.acts-test.true (sym c.in_default.ensures))
@@ -19,7 +19,7 @@ do_next-requires c =
     let act = c.in-Some.act in
     record {
       stands = c.acts.invariant.2;
-      ready = acting_ready _ _ _ _ _ _ _ c.acts.invariant.1 c.acts-test.true c.requires.calm c.requires.fits c.requires.few;
+      ready = acting_ready _ _ _ _ _ _ _ c.acts.invariant.1 c.acts-test.true c.args.current.calm c.args.current.fits c.requires.few;
       left = record { bytes = omega arith; small = omega arith; words = omega arith };
       right = record { bytes = omega arith; small = omega arith; words = omega arith };
       plain = plain_kind act.kind _ _ (acting_plain _ _ _ _ _ _ _ c.acts.invariant.1 c.acts-test.true (act_of act) _ (sym c.in-Some.ensures));
@@ -27,11 +27,11 @@ do_next-requires c =
 
 pub acts-preserved : goal.acts-preserved
 acts-preserved c =
-    let s = state_of c.args.tree.bytes.now c.args.tree.places.now in
+    let s = state_of c.args.current.tree.bytes.now c.args.current.tree.places.now in
     let count : c.if-n-count.changes.0 ≡ _ =
     elim c.if-n-count.branch [
-      | then-n-count w ↦ count_last c.acts.n c.args.count s.changes c.if-n-count.changes.0 w.if-n-count.true (ap (λ x. x.0) w.changes-is ∙ ap (λ (n : ℕ). n + 1) c.changes_of-before.ensures)
-      | else-n-count w ↦ count_before c.acts.n c.args.count s.changes c.if-n-count.changes.0 c.acts-test.true w.if-n-count.false (ap (λ x. x.0) w.changes-is ∙ c.changes_of-before.ensures)
+      | then-n-count w ↦ count_last c.acts.n c.args.count s.changes c.if-n-count.changes.0 w.if-n-count.true (ap (λ x. x.0) w.changes-is ∙ ap (λ (n : ℕ). n + 1) c.changes-before.ensures)
+      | else-n-count w ↦ count_before c.acts.n c.args.count s.changes c.if-n-count.changes.0 c.acts-test.true w.if-n-count.false (ap (λ x. x.0) w.changes-is ∙ c.changes-before.ensures)
     ] in (
       c.acts.invariant.0,
       acting_more _ _ s _ _ _ _ c.acts.invariant.1 c.acts-test.true _ _ (sym c.in-Some.ensures) c.if-n-count.changes.0 _ c.in-Ok.ensures.step count,

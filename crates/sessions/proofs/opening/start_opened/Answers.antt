@@ -18,13 +18,13 @@ returns c =
     let n = c.args.changes.0 in
     let ln : n < 18446744073709551616 = search rules in
     let lx : x < 18446744073709551616 = search rules in
-    let lt : c.top_of.result.0 < 18446744073709551616 = search rules in
-    let lt' : s.top < 18446744073709551616 = omega (arith, c.top_of.ensures) in
-    let rest = take_rest c.prelude_of-prelude.result.now 28 ∙ ap (drop 28) c.prelude_of-prelude.ensures.value in
-    let long = others_long mem ps c.requires.holds in
-    let first = begins_count mem ps c.requires.holds in
+    let lt : c.top.result.0 < 18446744073709551616 = search rules in
+    let lt' : s.top < 18446744073709551616 = omega (arith, c.top.ensures) in
+    let rest = take_rest c.prelude.result.bytes.now 28 ∙ ap (drop 28) c.prelude.ensures.value in
+    let long = others_long mem ps c.args.tree.holds in
+    let first = begins_count mem ps c.args.tree.holds in
     let all = opened_long n s.top x (k + 1) others ln lt' lx (omega arith) in
-    let added = the_same _ (opened n s.top x (k + 1) others) (λ i. opened n (c.top_of.ensures i) x (c.session_count.ensures i + 1) (rest i))
+    let added = the_same _ (opened n s.top x (k + 1) others) (λ i. opened n (c.top.ensures i) x (c.session_count.ensures i + 1) (rest i))
     (and_then (and_then (and_then (and_then (and_then c.append_u64-a.ensures.added c.append_u64-b.ensures.added) c.append_u64-c.ensures.added) c.append_u32-d.ensures.added) c.append_bytes-e.ensures.added) c.append_u64-used.ensures.added) in
     record {
       begun = begun _ _ _ _ _ (opened_begins n s.top x (k + 1) others ln lt' lx (omega arith) (omega arith)) added c.requires.more (omega (arith, added.ends, added.long));
