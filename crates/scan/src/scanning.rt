@@ -1,13 +1,14 @@
 // Bytes that come from elsewhere: are they a tree that fits a room, and where its entries begin.
 ghost use Rattle.std.specs.Prelude.{◌≡◌, ℕ, ◌+◌, ◌<◌, ◌≤◌, length, take, Decides, MatchOption};
 ghost use Rattle.lent_bytes.specs.Numbers.{be64};
-ghost use Rattle.cells.specs.Layout.{begins_at, Formed, Holds, sessions_in, state_of};
+ghost use Rattle.cells.specs.Layout.{begins_at, Formed, sessions_in};
+ghost use Rattle.cells.specs.Entries.{tree_state};
 ghost use Rattle.cells.specs.Fits.{rising, Below, Fits};
 ghost use Rattle.scan.specs.Scans.{CellsAt, Scanned, HoldsUnique};
 
-use cells::cell::read_head;
-use cells::held::{Tree, cell_at, changes_of, prelude_of, session_count, top_of, weight_of};
-use lent_bytes::numbers::{read_u32, read_u64};
+use cells::held::Tree;
+use cells::prelude::Prelude;
+use lent_bytes::numbers::read_u32;
 use lent_bytes::paths::check_path;
 
 // How long the cell is with which bytes begin, if they begin with one.
@@ -45,10 +46,7 @@ fn scan_cells(bytes: &[u8], from: usize, places: &mut [u32]) -> Option<usize>
     let mut count = 0;
     places[0] = from as u32;
     while at < bytes.len() {
-        let Some(n) = cell_len(&bytes[at..]) else {
-            return None;
-        };
-        at += n;
+        at += cell_len(&bytes[at..])?;
         count += 1;
         if count >= places.len() {
             return None;
@@ -73,63 +71,53 @@ fn entries_begin(bytes: &[u8]) -> Option<usize>
 }
 
 // Do sessions rise, from above 0 to the last that was opened.
-fn sessions_rise(prelude: &[u8]) -> bool
-    requires { length prelude.now ≡ begins_at prelude.now }
-    ensures { result ≡ rising 0 (sessions_in prelude.now) (be64 prelude.now 16) }
+fn sessions_rise(prelude: Prelude<'_>) -> bool
+    ensures { result ≡ rising 0 (sessions_in prelude.entry.bytes.now) (be64 prelude.entry.bytes.now 16) }
 {
-    let last = read_u64(prelude, 16);
+    let last = prelude.last_session().0;
     let mut low = 0u64;
-    for i in 0..read_u32(prelude, 24) as usize {
-        let session = read_u64(prelude, 28 + 8 * i);
-        if session <= low {
+    for session in prelude.sessions() {
+        if session.0 <= low {
             return false;
         }
-        low = session;
+        low = session.0;
     }
     low <= last
 }
 
 // Are all counts of a tree at most so high.
-fn counts_below(tree: Tree, limit: u64) -> bool
-    requires { Holds tree.bytes.now tree.places.now }
-    ensures { Decides result (Below limit (state_of tree.entry.bytes.now tree.entry.places.now)) }
+fn counts_below(tree: Tree<'_>, limit: u64) -> bool
+    ensures { Decides result (Below limit (tree_state tree.entry)) }
 {
-    if top_of(tree).0 > limit {
+    if tree.top().0 > limit {
         return false;
     }
-    for i in 0..tree.places.len() - 1 {
-        let head = read_head(cell_at(tree, i));
-        if head.version.0 > limit {
-            return false;
-        }
-        if head.kids.0 > limit {
-            return false;
-        }
-    }
-    true
+    tree.cells().all(|cell| {
+        let head = cell.head();
+        head.version.0 <= limit && head.kids.0 <= limit
+    })
 }
 
 // Does a tree fit a room.
-pub fn fits_room(tree: Tree, room: u64) -> bool
-    requires holds { Holds tree.bytes.now tree.places.now }
-    requires small { length tree.bytes.now < 4294967296 }
-    ensures { Decides result (Fits room (state_of tree.entry.bytes.now tree.entry.places.now)) }
+pub fn fits_room(tree: Tree<'_>, room: u64) -> bool
+    requires { length tree.bytes.now < 4294967296 }
+    ensures { Decides result (Fits room (tree_state tree.entry)) }
 {
-    let changes = changes_of(tree).0;
+    let changes = tree.changes().0;
     if changes > 72057594037927936 {
         return false;
     }
-    if session_count(tree) > 4096 {
+    if tree.session_count() > 4096 {
         return false;
     }
-    let prelude = prelude_of(tree);
-    if read_u64(prelude, 16) > changes {
+    let prelude = tree.prelude();
+    if prelude.last_session().0 > changes {
         return false;
     }
     if !sessions_rise(prelude) {
         return false;
     }
-    if weight_of(tree) > room {
+    if tree.weight() > room {
         return false;
     }
     counts_below(tree, 64 * changes)
@@ -142,15 +130,11 @@ pub fn scan(bytes: &[u8], room: u64, places: &mut [u32]) -> Option<usize>
     if bytes.len() > 4294967295 {
         return None;
     }
-    if places.len() == 0 {
+    if places.is_empty() {
         return None;
     }
-    let Some(begin) = entries_begin(bytes) else {
-        return None;
-    };
-    let Some(count) = scan_cells(bytes, begin, places) else {
-        return None;
-    };
+    let begin = entries_begin(bytes)?;
+    let count = scan_cells(bytes, begin, places)?;
     let tree = Tree {
         bytes,
         places: &places[0..count + 1],

@@ -1,30 +1,22 @@
-use Rattle.std.proofs.Common.{ℕ, ◌+◌, ◌-◌, ◌*◌, sym, ap, ◌∙◌, arith}
-use Rattle.lent_bytes.specs.Numbers.{be32}
-use Rattle.cells.specs.Layout.{sessions_in, numbers_at}
+use Rattle.std.proofs.Common.{ℕ, List, sym, ap, ◌∙◌, arith}
+use Rattle.cells.specs.Layout.{sessions_in}
 use Rattle.cells.specs.Fits.{rising}
+use Rattle.cells.specs.Walks.{sessions_left}
 use Rattle.scan.proofs.Rises.{rises_not, rises_on, rises_all}
 use Rattle.scan.proofs.scanning.sessions_rise.Goals as goal
 
+pub loop-session-init : goal.loop-session-init
+loop-session-init c = ap (λ (xs : List ℕ). rising 0 xs c.last_session-last.result.0) (sym (ap sessions_left c.into_iter-session-iterator.ensures.into_iter_gives ∙ c.sessions-session-items.ensures))
+
 pub returns-then-session-low : goal.returns-then-session-low
 returns-then-session-low c =
-    let pre = c.args.prelude.now in
-    let i = c.loop-i.i in
-    let last = c.read_u64-last.result in
-    sym (ap (rising 0 (sessions_in pre)) (sym c.read_u64-last.ensures) ∙ c.loop-i.invariant ∙
-    rises_not pre last (be32 pre 24 - i) (be32 pre 24 - (i + 1)) (28 + 8 * i) c.loop-i.low (omega arith) (omega (arith, c.read_u64-session.ensures)))
+    let last = c.last_session-last.result.0 in
+    sym (ap (rising 0 (sessions_in c.args.prelude.bytes.now)) (sym c.last_session-last.ensures) ∙ c.loop-session.invariant ∙ rises_not last c.loop-session.low _ _ _ c.in-Some.ensures.steps c.if-session-low.true)
 
-pub loop-i-preserved : goal.loop-i-preserved
-loop-i-preserved c =
-    let pre = c.args.prelude.now in
-    let i = c.loop-i.i in
-    let last = c.read_u64-last.result in
-    c.loop-i.invariant ∙
-    rises_on pre last (be32 pre 24 - i) (be32 pre 24 - (i + 1)) (28 + 8 * i) (28 + 8 * (i + 1)) c.loop-i.low (omega arith) (omega arith) (omega (arith, c.read_u64-session.ensures)) ∙
-    ap (λ (n : ℕ). rising n (numbers_at (be32 pre 24 - (i + 1)) pre (28 + 8 * (i + 1))) last) (sym c.read_u64-session.ensures)
+pub loop-session-preserved : goal.loop-session-preserved
+loop-session-preserved c = c.loop-session.invariant ∙ rises_on c.last_session-last.result.0 c.loop-session.low _ _ _ c.in-Some.ensures.steps c.if-session-low.false
 
 pub returns : goal.returns
 returns c =
-    let pre = c.args.prelude.now in
-    let i = c.loop-i.i in
-    let last = c.read_u64-last.result in
-    sym (ap (rising 0 (sessions_in pre)) (sym c.read_u64-last.ensures) ∙ c.loop-i.invariant ∙ rises_all pre last (be32 pre 24 - i) (28 + 8 * i) c.loop-i.low (omega arith))
+    let last = c.last_session-last.result.0 in
+    sym (ap (rising 0 (sessions_in c.args.prelude.bytes.now)) (sym c.last_session-last.ensures) ∙ c.loop-session.invariant ∙ rises_all last c.loop-session.low _ c.in-None.ensures.steps.0)
