@@ -1,13 +1,14 @@
 // The tree's calls for C, to measure them from outside (bench/). A C caller is held to no `requires`.
 #![tactic(auto)]
 
-ghost use Rattle.std.specs.Prelude.{◌≤◌, length};
+ghost use Rattle.std.specs.Prelude.{◌≡◌, ◌≤◌, false, length};
 ghost use Rattle.lent_bytes.specs.Paths.{Spells};
 ghost use Rattle.cells.specs.Layout.{Holds, state_of};
 ghost use Rattle.cells.specs.Fits.{Calm, Fits, Suits};
+ghost use Rattle.tree.specs.Answers.{numbered};
 
 use calls::types::{Act, ActKind, Expected};
-use cells::held::Tree;
+use cells::held::{Current, Tree};
 use doing::do_one;
 use drafts::writing::start_blank;
 use lent_bytes::counts::Session;
@@ -22,6 +23,17 @@ pub extern "C" fn tree_blank(out: &mut [u8], out_places: &mut [u32]) -> usize
     requires more { 1 ≤ length out_places.old }
 {
     start_blank(out, out_places).used
+}
+
+// How many bytes the next tree takes, or 0 where the act is refused.
+fn used_by(current: Current<'_>, act: Act<'_>, out: &mut [u8], places: &mut [u32]) -> usize
+    requires suits { Suits current.room out.old places.old }
+    requires plain { numbered act.kind ≡ false }
+{
+    match do_one(current, act, out, places) {
+        Ok(size) => size.used,
+        Err(_) => 0,
+    }
 }
 
 // Puts a value; how many bytes the next tree takes, or 0.
@@ -41,15 +53,16 @@ pub extern "C" fn tree_put<'t, 'c>(
     requires suits { Suits room out.old lent.old }
     requires spells { Spells path.now }
 {
+    let current = Current {
+        tree: Tree { bytes, places },
+        room,
+    };
     let act = Act {
         kind: ActKind::Put(Expected::Any),
         path: Path { names: path },
         value,
     };
-    match do_one(Tree { bytes, places }, room, act, out, lent) {
-        Ok(size) => size.used,
-        Err(_) => 0,
-    }
+    used_by(current, act, out, lent)
 }
 
 // Makes an entry; how many bytes the next tree takes, or 0.
@@ -69,16 +82,19 @@ pub extern "C" fn tree_make<'t, 'c>(
     requires suits { Suits room out.old lent.old }
     requires spells { Spells path.now }
 {
-    let kind = ActKind::Make {
-        numbered: false,
-        session: Session(0),
+    let current = Current {
+        tree: Tree { bytes, places },
+        room,
     };
-    let path = Path { names: path };
-    let act = Act { kind, path, value };
-    match do_one(Tree { bytes, places }, room, act, out, lent) {
-        Ok(size) => size.used,
-        Err(_) => 0,
-    }
+    let act = Act {
+        kind: ActKind::Make {
+            numbered: false,
+            session: Session(0),
+        },
+        path: Path { names: path },
+        value,
+    };
+    used_by(current, act, out, lent)
 }
 
 // Looks for an entry; how long its value is, or 2^32.
@@ -87,7 +103,7 @@ pub extern "C" fn tree_look<'t>(bytes: &'t [u8], places: &'t [u32], path: &[u8])
     requires holds { Holds bytes.now places.now }
     requires spells { Spells path.now }
 {
-    match look(Tree { bytes, places }, path) {
+    match look(Tree { bytes, places }, Path { names: path }) {
         Ok(seen) => seen.value.len() as u64,
         Err(_) => 4294967296,
     }
