@@ -11,7 +11,9 @@ use Rattle.content.specs.Content.{is_tree, tree_at}
 use Rattle.content.proofs.Decided.{tree_decided}
 use Rattle.memory.specs.declared.lent.Memory.{Memory}
 use Rattle.memory.specs.declared.lent.Kept.{Kept}
-use Rattle.memory.specs.Keeps.{Side, left_side, right_side, standing, state_at, slot_in, ring, queue, waiting_at, Slots, Sound, Stands, Unmoved, HeldAs, TakenTo}
+use Rattle.memory.specs.declared.lent.Side as lent
+use Rattle.memory.specs.declared.lent.Side.TheVariants as on
+use Rattle.memory.specs.Keeps.{Side, side_at, left_side, right_side, standing, state_at, slot_in, ring, queue, waiting_at, Slots, Sound, Stands, Unmoved, HeldAs, TakenTo}
 
 -- bytes and places that hold a tree that fits are one by the test, too
 pub is_tree_at : (room : ℕ) (bytes ps : List ℕ) → Holds bytes ps → Fits room (state_of bytes ps) → tree_at room bytes ≡ Some (state_of bytes ps)
@@ -41,20 +43,20 @@ taken room body out ps z t u c p q =
     (ap (λ (b : Bool). cond b (Some (meaning body)) None) ((tree_decided room body).1 t) ∙ ap Some e, record { drafts = record { holds = h; inside = u; counted = c }; fits = subst (Fits room) e t.fits })
 
 -- WHICH SIDE STANDS
-pub right_stands : (k : Kept) (m : Memory) → k.second ≡ true → standing k m ≡ right_side k m
-right_stands k m e = ap (λ (b : Bool). cond b (right_side k m) (left_side k m)) e
+pub right_stands : (k : Kept) (m : Memory) → k.stands ≡ on.Right → standing k m ≡ right_side k m
+right_stands k m e = ap (λ (s : lent.Side). side_at s (left_side k m) (right_side k m)) e
 
-pub left_stands : (k : Kept) (m : Memory) → k.second ≡ false → standing k m ≡ left_side k m
-left_stands k m e = ap (λ (b : Bool). cond b (right_side k m) (left_side k m)) e
+pub left_stands : (k : Kept) (m : Memory) → k.stands ≡ on.Left → standing k m ≡ left_side k m
+left_stands k m e = ap (λ (s : lent.Side). side_at s (left_side k m) (right_side k m)) e
 
 pub held_side : (room : ℕ) (s t : Side) (bytes ps : List ℕ) → s ≡ t → Stands room s → bytes ≡ bytes_in t.bytes t.size → ps ≡ places_in t.places t.size → HeldAs room (state_at s) bytes ps
 held_side room s t bytes ps e h p q = subst (λ (x : Side). HeldAs room (state_at x) bytes ps) (sym e) (held_as room t bytes ps (subst (Stands room) e h) p q)
 
 -- what is written beside the tree that stands leaves it alone
-pub right_stays : (k : Kept) (m n : Memory) → k.second ≡ true → right_side k n ≡ right_side k m → standing k n ≡ standing k m
+pub right_stays : (k : Kept) (m n : Memory) → k.stands ≡ on.Right → right_side k n ≡ right_side k m → standing k n ≡ standing k m
 right_stays k m n e h = right_stands k n e ∙ (h ∙ sym (right_stands k m e))
 
-pub left_stays : (k : Kept) (m n : Memory) → k.second ≡ false → left_side k n ≡ left_side k m → standing k n ≡ standing k m
+pub left_stays : (k : Kept) (m n : Memory) → k.stands ≡ on.Left → left_side k n ≡ left_side k m → standing k n ≡ standing k m
 left_stays k m n e h = left_stands k n e ∙ (h ∙ sym (left_stands k m e))
 
 pub suits_long : (room : ℕ) (out ps out' ps' : List ℕ) → Suits room out ps → length out' ≡ length out → length ps' ≡ length ps → Suits room out' ps'
@@ -62,7 +64,7 @@ suits_long room out ps out' ps' s p q = record { bytes = omega (arith, s.bytes);
 
 -- where the tree that stands, the calls and the answers so far are the same, all is
 pub unmoved : (k : Kept) (m n : Memory) → Sound k m → standing k n ≡ standing k m → n.ends.now ≡ m.ends.now → n.calls.now ≡ m.calls.now → take k.replied n.replies.now ≡ take k.replied m.replies.now →
-    length n.replies.now ≡ length m.replies.now → Suits k.room n.left.now n.left_places.now → Suits k.room n.right.now n.right_places.now → Unmoved k m n
+    length n.replies.now ≡ length m.replies.now → Suits k.room n.left.bytes.now n.left.places.now → Suits k.room n.right.bytes.now n.right.places.now → Unmoved k m n
 unmoved k m n s side ends calls replies long left right =
     record {
       state = ap state_at side;
@@ -88,12 +90,12 @@ unmoved k m n s side ends calls replies long left right =
           };
     }
 
-pub unmoved_left : (k : Kept) (m n : Memory) → Sound k m → k.second ≡ true → right_side k n ≡ right_side k m → n.ends.now ≡ m.ends.now → n.calls.now ≡ m.calls.now → n.replies.now ≡ m.replies.now →
-    length n.left.now ≡ length m.left.now → length n.left_places.now ≡ length m.left_places.now → Suits k.room n.right.now n.right_places.now → Unmoved k m n
+pub unmoved_left : (k : Kept) (m n : Memory) → Sound k m → k.stands ≡ on.Right → right_side k n ≡ right_side k m → n.ends.now ≡ m.ends.now → n.calls.now ≡ m.calls.now → n.replies.now ≡ m.replies.now →
+    length n.left.bytes.now ≡ length m.left.bytes.now → length n.left.places.now ≡ length m.left.places.now → Suits k.room n.right.bytes.now n.right.places.now → Unmoved k m n
 unmoved_left k m n s e side ends calls replies a b right =
-    unmoved k m n s (right_stays k m n e side) ends calls (ap (take k.replied) replies) (ap length replies) (suits_long k.room m.left.now m.left_places.now n.left.now n.left_places.now s.left a b) right
+    unmoved k m n s (right_stays k m n e side) ends calls (ap (take k.replied) replies) (ap length replies) (suits_long k.room m.left.bytes.now m.left.places.now n.left.bytes.now n.left.places.now s.left a b) right
 
-pub unmoved_right : (k : Kept) (m n : Memory) → Sound k m → k.second ≡ false → left_side k n ≡ left_side k m → n.ends.now ≡ m.ends.now → n.calls.now ≡ m.calls.now → n.replies.now ≡ m.replies.now →
-    length n.right.now ≡ length m.right.now → length n.right_places.now ≡ length m.right_places.now → Suits k.room n.left.now n.left_places.now → Unmoved k m n
+pub unmoved_right : (k : Kept) (m n : Memory) → Sound k m → k.stands ≡ on.Left → left_side k n ≡ left_side k m → n.ends.now ≡ m.ends.now → n.calls.now ≡ m.calls.now → n.replies.now ≡ m.replies.now →
+    length n.right.bytes.now ≡ length m.right.bytes.now → length n.right.places.now ≡ length m.right.places.now → Suits k.room n.left.bytes.now n.left.places.now → Unmoved k m n
 unmoved_right k m n s e side ends calls replies a b left =
-    unmoved k m n s (left_stays k m n e side) ends calls (ap (take k.replied) replies) (ap length replies) left (suits_long k.room m.right.now m.right_places.now n.right.now n.right_places.now s.right a b)
+    unmoved k m n s (left_stays k m n e side) ends calls (ap (take k.replied) replies) (ap length replies) left (suits_long k.room m.right.bytes.now m.right.places.now n.right.bytes.now n.right.places.now s.right a b)
