@@ -6,6 +6,7 @@ use cells::draft::Size;
 use service::outcome::Outcome;
 
 // A buffer for a tree, and one for the places of its entries.
+#[derive(Drop)]
 pub struct TreeRoom<'b, 'p> {
     pub bytes: &'b mut [u8],
     pub places: &'p mut [u32],
