@@ -1,5 +1,5 @@
 -- A side on which a tree stands, read as a tree; and bytes taken over to a side. Assumes nothing.
-use Rattle.std.proofs.Common.{◌≡◌, ℕ, ◌+◌, ◌≤◌, Bool, true, false, cond, List, length, take, Some, None, sym, refl, ap, ◌∙◌, subst, arith}
+use Rattle.std.proofs.Common.{◌≡◌, ℕ, ◌+◌, ◌≤◌, Bool, cond, List, length, take, Some, None, sym, refl, ap, ◌∙◌, subst, arith}
 use Rattle.cells.specs.declared.draft.Size.{Size}
 use Rattle.cells.specs.Layout.{Holds, state_of}
 use Rattle.cells.specs.Drafts.{drafting, bytes_in, places_in}
@@ -7,13 +7,13 @@ use Rattle.cells.specs.Fits.{Fits, Suits}
 use Rattle.scan.specs.Scans.{places_of, meaning, IsTree}
 use Rattle.scan.proofs.Uniques.{holds_unique, is_tree_lem}
 use Rattle.tree.proofs.Weighs.{space}
-use Rattle.content.specs.Content.{is_tree, tree_at}
+use Rattle.content.specs.Content.{tree_at}
 use Rattle.content.proofs.Decided.{tree_decided}
 use Rattle.memory.specs.declared.lent.Memory.{Memory}
 use Rattle.memory.specs.declared.lent.Kept.{Kept}
 use Rattle.memory.specs.declared.lent.Side as lent
 use Rattle.memory.specs.declared.lent.Side.TheVariants as on
-use Rattle.memory.specs.Keeps.{Side, side_at, left_side, right_side, standing, state_at, slot_in, ring, queue, waiting_at, Slots, Sound, Stands, Unmoved, HeldAs, TakenTo}
+use Rattle.memory.specs.Keeps.{Side, side_at, left_side, right_side, standing, state_at, Stands, HeldAs, TakenTo}
 
 -- bytes and places that hold a tree that fits are one by the test, too
 pub is_tree_at : (room : ℕ) (bytes ps : List ℕ) → Holds bytes ps → Fits room (state_of bytes ps) → tree_at room bytes ≡ Some (state_of bytes ps)

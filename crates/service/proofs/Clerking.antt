@@ -16,8 +16,8 @@ use Rattle.tree.specs.Answers.{made_by, out_of}
 use Rattle.service.specs.declared.asking.Asked.{Asked}
 use Rattle.service.specs.declared.asking.AtOnce.{AtOnce}
 use Rattle.service.specs.Asking.{AskedAs}
-use Rattle.service.specs.Service.{Outcome, reply_to, next_to, keep_to, outcome_of, at_once, act_in_range, say_to}
-use Rattle.service.specs.Answering.{Says, left_by, kept_of, next_of, leaves, Wrote, Answers}
+use Rattle.service.specs.Service.{Outcome, reply_to, next_to, outcome_of, at_once, act_in_range, say_to}
+use Rattle.service.specs.Answering.{Says, left_by, kept_of, next_of, Wrote, Answers}
 use Rattle.service.proofs.Lawfulness.{at_once_lem, refusal_back, kept_at, Core, core_screened}
 
 -- entries weigh more than their number tells

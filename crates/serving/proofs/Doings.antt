@@ -1,19 +1,16 @@
 -- A call that was done beside the tree that stands: what it leaves stands, and all else is as it was. Assumes nothing.
-use Rattle.std.proofs.Common.{◌≡◌, ℕ, List, [], ◌∷◌, IfSome, Some, None, Option, Ok, Err, Result, sym, refl, ap, ◌∙◌, subst}
-use Rattle.std.specs.Result.{IfOk, IsErrAnd}
-use Rattle.model.specs.Tree.{State, Act, Do, No, Out, does}
+use Rattle.std.proofs.Common.{◌≡◌, ℕ, List, IfSome, Some, None, Option, Ok, Err, Result, sym, refl, ap, ◌∙◌, subst}
+use Rattle.std.specs.Result.{IsErrAnd}
+use Rattle.model.specs.Tree.{State, No}
 use Rattle.cells.specs.declared.draft.Size.{Size}
-use Rattle.cells.specs.Drafts.{Drafts, drafting}
-use Rattle.cells.specs.Fits.{Fits}
-use Rattle.calls.specs.Screening.{Screen, LetIn, screened}
+use Rattle.cells.specs.Drafts.{drafting}
+use Rattle.calls.specs.Screening.{screened}
 use Rattle.tree.specs.declared.refusal.Refusal.{Refusal}
-use Rattle.tree.specs.Answers.{made_by, out_of}
 use Rattle.service.specs.declared.asking.AtOnce.{AtOnce}
 use Rattle.service.specs.Asking.{told_at_once}
-use Rattle.service.specs.Service.{Outcome, at_once, refusal_of, outcome_of, keep_to, next_to}
-use Rattle.service.specs.Answering.{left_by, kept_of, next_of, Wrote}
+use Rattle.service.specs.Service.{Outcome, at_once, refusal_of, outcome_of}
+use Rattle.service.specs.Answering.{left_by, kept_of, next_of}
 use Rattle.service.proofs.Lawfulness.{at_once_lem}
-use Rattle.service.proofs.Clerking.{wrote}
 use Rattle.memory.specs.declared.lent.Memory.{Memory}
 use Rattle.memory.specs.declared.lent.Kept.{Kept}
 use Rattle.memory.specs.declared.lent.Side as lent

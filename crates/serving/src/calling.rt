@@ -58,7 +58,13 @@ fn write_beside(kept: Kept, memory: &mut Memory, slot: usize) -> Result<Size, Re
     // kept: one call may be lent one field of what is behind a &mut: so the room is taken out, and put back
     match kept.stands {
         Side::Left => {
-            let TreeRoom { bytes, places } = std::mem::replace(&mut memory.right, TreeRoom { bytes: &mut [], places: &mut [] });
+            let TreeRoom { bytes, places } = std::mem::replace(
+                &mut memory.right,
+                TreeRoom {
+                    bytes: &mut [],
+                    places: &mut [],
+                },
+            );
             let last = tree(kept, memory);
             let call = call_at(kept, memory, slot);
             let written = write_call(last, kept.room, call, bytes, places);
@@ -66,7 +72,13 @@ fn write_beside(kept: Kept, memory: &mut Memory, slot: usize) -> Result<Size, Re
             written
         }
         Side::Right => {
-            let TreeRoom { bytes, places } = std::mem::replace(&mut memory.left, TreeRoom { bytes: &mut [], places: &mut [] });
+            let TreeRoom { bytes, places } = std::mem::replace(
+                &mut memory.left,
+                TreeRoom {
+                    bytes: &mut [],
+                    places: &mut [],
+                },
+            );
             let last = tree(kept, memory);
             let call = call_at(kept, memory, slot);
             let written = write_call(last, kept.room, call, bytes, places);
