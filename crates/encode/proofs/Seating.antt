@@ -2,7 +2,7 @@
 use Rattle.std.proofs.Common.{◌≡◌, ℕ, zero, suc, ◌+◌, ◌<◌, ◌≤◌, List, [], ◌∷◌, ◌++◌, length, get_or, take, Option, sym, refl, ap, ◌∙◌, append_assoc, append-nil, add-one, arith}
 use Rattle.std.proofs.lemmas.List.{take_all}
 use Rattle.lent_bytes.specs.Writing.{Added}
-use Rattle.service.specs.declared.outcome.Outcome.{Outcome}
+use Rattle.service.specs.Service.{Outcome}
 use Rattle.agreement.specs.declared.Place.{Place}
 use Rattle.wire.specs.Messages.{seat_bytes, seats_bytes}
 
