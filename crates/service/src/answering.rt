@@ -1,7 +1,7 @@
 // Answers as bytes.
 ghost use Rattle.std.specs.Prelude.{◌≡◌, ℕ, ◌+◌, ◌-◌, ◌*◌, ◌<◌, ◌≤◌, true, [], ◌∷◌, length};
 ghost use Rattle.model.specs.Tree.{No, Done, Entry', Do, Look, Kids, does, path_ok};
-ghost use Rattle.cells.specs.Layout.{Holds, state_of};
+ghost use Rattle.cells.specs.Entries.{tree_state};
 ghost use Rattle.calls.specs.Reading.{act_of, path_now};
 ghost use Rattle.calls.specs.Screening.{LetIn};
 ghost use Rattle.service.specs.Service.{say_to};
@@ -45,7 +45,7 @@ fn count_names(path: Path) -> u8
 }
 
 // The answer to a making that was done.
-fn say_made(path: Path, out: &mut [u8]) -> usize
+fn say_made(path: Path<'_>, out: &mut [u8]) -> usize
     requires few { length (path_now path) < 256 }
     requires room { 3 + length path.names.now ≤ length out.old }
     ensures { Says (Done (path_now path.entry ∷ [])) out.new result }
@@ -71,13 +71,12 @@ fn say_entry(seen: Seen, out: &mut [u8]) -> usize
 }
 
 // The answer to a call for the names under a path.
-pub fn say_kids(tree: Tree, path: Path, out: &mut [u8]) -> usize
-    requires holds { Holds tree.bytes.now tree.places.now }
+pub fn say_kids(tree: Tree<'_>, path: Path<'_>, out: &mut [u8]) -> usize
     requires room { 5 + 65 * (length tree.places.now - 1) ≤ length out.old }
     requires small { length out.old < 4294967296 }
-    ensures { (room : ℕ) → Says (does room (Kids (path_now path.entry)) (state_of tree.entry.bytes.now tree.entry.places.now)).reply out.new result }
+    ensures { (room : ℕ) → Says (does room (Kids (path_now path.entry)) (tree_state tree.entry)).reply out.new result }
 {
-    let listed = match kids(tree, path.names, &mut out[5..]) {
+    let listed = match kids(tree, path, &mut out[5..]) {
         Err(refusal) => return say_refused(refusal.number(), out),
         Ok(listed) => listed,
     };
@@ -87,12 +86,11 @@ pub fn say_kids(tree: Tree, path: Path, out: &mut [u8]) -> usize
 }
 
 // The answer to a look at a path.
-pub fn say_look(tree: Tree, path: Path, out: &mut [u8]) -> usize
-    requires holds { Holds tree.bytes.now tree.places.now }
-    requires room { 65581 ≤ length out.old }
-    ensures { (room : ℕ) → Says (does room (Look (path_now path.entry)) (state_of tree.entry.bytes.now tree.entry.places.now)).reply out.new result }
+pub fn say_look(tree: Tree<'_>, path: Path<'_>, out: &mut [u8]) -> usize
+    requires { 65581 ≤ length out.old }
+    ensures { (room : ℕ) → Says (does room (Look (path_now path.entry)) (tree_state tree.entry)).reply out.new result }
 {
-    match look(tree, path.names) {
+    match look(tree, path) {
         Err(refusal) => say_refused(refusal.number(), out),
         Ok(seen) => say_entry(seen, out),
     }

@@ -1,6 +1,6 @@
 // What a call asks.
 ghost use Rattle.std.specs.Prelude.{◌≡◌, false, true, ◌||◌};
-ghost use Rattle.model.specs.Tree.{none, path_ok, value_ok, core, one};
+ghost use Rattle.model.specs.Tree.{none, value_ok, core, one};
 ghost use Rattle.calls.specs.Reading.{path_now, act_of, call_of, acts_in};
 ghost use Rattle.calls.specs.Screening.{screened, LetIn};
 ghost use Rattle.tree.specs.Answers.{numbered};
@@ -10,7 +10,7 @@ ghost use Rattle.service.specs.Asking.{AskedAs, Plain, IsTheAct, asked_call, tol
 use calls::reading::read_act;
 use calls::screening::{NotLetIn, screen};
 use calls::types::{Act, ActKind, Acts, Call};
-use lent_bytes::paths::{Path, check_path};
+use lent_bytes::paths::Path;
 use tree::refusal::Refusal;
 
 // What a call asks: it looks at a path, or asks for the names under one; or it writes by one act.
@@ -63,13 +63,6 @@ fn refusal_of(number: u8) -> Refusal
     Refusal::try_from(number).unwrap_or(Refusal::Full)
 }
 
-// Is a path in range.
-fn is_path(path: Path) -> bool
-    ensures { result ≡ path_ok (path_now path.entry) }
-{
-    check_path(path.names)
-}
-
 // Is a path that of the top.
 fn is_top(path: Path) -> bool
     ensures { result ≡ none (path_now path.entry) }
@@ -89,7 +82,7 @@ fn is_act(act: Act) -> bool
     requires { numbered act.kind ≡ false }
     ensures { result ≡ act_in_range (act_of act.entry) }
 {
-    if !is_path(act.path) {
+    if !act.path.is_ok() {
         return false;
     }
     match act.kind {
@@ -104,8 +97,8 @@ fn is_in_range(asked: Asked) -> bool
     ensures { result ≡ in_range (asked_call asked.entry) }
 {
     match asked {
-        Asked::Look(path) => is_path(path),
-        Asked::Kids(path) => is_top(path) || is_path(path),
+        Asked::Look(path) => path.is_ok(),
+        Asked::Kids(path) => is_top(path) || path.is_ok(),
         Asked::Write(act) => is_act(act),
     }
 }

@@ -1,13 +1,13 @@
 // One clerk with one tree: a call is answered, and the tree that it leaves is written beside the last.
 ghost use Rattle.std.specs.Prelude.{◌+◌, ◌<◌, ◌≤◌, length, Decides};
-ghost use Rattle.cells.specs.Layout.{Holds, state_of};
-ghost use Rattle.cells.specs.Fits.{Fits, Calm, Suits};
+ghost use Rattle.cells.specs.Entries.{tree_state};
+ghost use Rattle.cells.specs.Fits.{Suits};
 ghost use Rattle.service.specs.Answering.{Answers, AnsweredBy};
 
 use crate::answering::{say_kids, say_look, say_refused, say_write};
 use crate::asking::{Asked, ask};
 use cells::draft::Size;
-use cells::held::Tree;
+use cells::held::{Current, Tree};
 use doing::{do_one, is_calm};
 use scan::scanning::scan;
 
@@ -38,20 +38,16 @@ fn suits_answer(room: u64, reply: &[u8]) -> bool
 
 // What a call asks, answered from a tree.
 fn answer_from(
-    tree: Tree,
-    room: u64,
+    current: Current<'_>,
     call: &[u8],
     out: &mut [u8],
     places: &mut [u32],
     reply: &mut [u8],
 ) -> Answered
-    requires holds { Holds tree.bytes.now tree.places.now }
-    requires fits { Fits room (state_of tree.bytes.now tree.places.now) }
-    requires calm { Calm (state_of tree.bytes.now tree.places.now) }
-    requires suits { Suits room out.old places.old }
-    requires room { room + 65581 ≤ length reply.old }
+    requires suits { Suits current.room out.old places.old }
+    requires room { current.room + 65581 ≤ length reply.old }
     requires small { length reply.old < 4294967296 }
-    ensures { Answers room call.now (state_of tree.entry.bytes.now tree.entry.places.now) result out.new places.new reply.new }
+    ensures { Answers current.entry.room call.now (tree_state current.entry.tree) result out.new places.new reply.new }
 {
     let asked = match ask(call) {
         Ok(asked) => asked,
@@ -64,15 +60,15 @@ fn answer_from(
     };
     match asked {
         Asked::Look(path) => Answered {
-            reply: say_look(tree, path, reply),
+            reply: say_look(current.tree, path, reply),
             next: None,
         },
         Asked::Kids(path) => Answered {
-            reply: say_kids(tree, path, reply),
+            reply: say_kids(current.tree, path, reply),
             next: None,
         },
         Asked::Write(act) => {
-            let written = do_one(tree, room, act, out, places);
+            let written = do_one(current, act, out, places);
             Answered {
                 reply: say_write(act, written.map(|_| ()), reply),
                 next: written.ok(),
@@ -104,5 +100,6 @@ pub fn answer(
     if !is_calm(tree) {
         return None;
     }
-    Some(answer_from(tree, room, call, out, places, reply))
+    let current = Current { tree, room };
+    Some(answer_from(current, call, out, places, reply))
 }

@@ -1,6 +1,6 @@
 // The answer to a call that waits, written behind the answers of this turn.
 ghost use Rattle.std.specs.Prelude.{◌≡◌, ◌+◌, ◌<◌, ◌≤◌, length, take, None};
-ghost use Rattle.cells.specs.Layout.{Holds, state_of};
+ghost use Rattle.cells.specs.Entries.{tree_state};
 ghost use Rattle.cells.specs.Fits.{Fits};
 ghost use Rattle.calls.specs.Screening.{screened};
 ghost use Rattle.service.specs.Service.{at_once};
@@ -23,12 +23,11 @@ fn say(
     outcome: Option<Outcome>,
     out: &mut [u8],
 ) -> Option<usize>
-    requires holds { Holds tree.bytes.now tree.places.now }
-    requires fits { Fits room (state_of tree.bytes.now tree.places.now) }
+    requires fits { Fits room (tree_state tree) }
     requires waits { at_once (screened call.now) ≡ None }
     requires room { room + 65581 ≤ length out.old }
     requires small { length out.old < 4294967296 }
-    ensures { SaidAs (reply_from room call.now (state_of tree.entry.bytes.now tree.entry.places.now) outcome) out.new result }
+    ensures { SaidAs (reply_from room call.now (tree_state tree.entry) outcome) out.new result }
 {
     let asked = ask(call).ok()?;
     match asked {
@@ -47,12 +46,11 @@ fn say_behind(
     at: usize,
     replies: &mut [u8],
 ) -> Option<usize>
-    requires holds { Holds tree.bytes.now tree.places.now }
-    requires fits { Fits room (state_of tree.bytes.now tree.places.now) }
+    requires fits { Fits room (tree_state tree) }
     requires waits { at_once (screened call.now) ≡ None }
     requires room { at + (room + 65581) ≤ length replies.old }
     requires small { length replies.old < 4294967296 }
-    ensures said { SaidBehind (reply_from room call.now (state_of tree.entry.bytes.now tree.entry.places.now) outcome) at (room + 65581) replies.new result }
+    ensures said { SaidBehind (reply_from room call.now (tree_state tree.entry) outcome) at (room + 65581) replies.new result }
     ensures before { take at replies.new ≡ take at replies.old }
 {
     let end = at + room as usize + 65581;

@@ -1,14 +1,14 @@
 // Doing a call that lies in a slot.
 ghost use Rattle.std.specs.Prelude.{◌≡◌, ◌<◌, false};
-ghost use Rattle.cells.specs.Layout.{Holds, state_of};
-ghost use Rattle.cells.specs.Fits.{Fits, Calm, Suits};
+ghost use Rattle.cells.specs.Entries.{tree_state};
+ghost use Rattle.cells.specs.Fits.{Calm, Suits};
 ghost use Rattle.calls.specs.Screening.{screened};
 ghost use Rattle.service.specs.Service.{looks};
 ghost use Rattle.memory.specs.Keeps.{slot_at, state_in, Sound, Unmoved};
 ghost use Rattle.serving.specs.Doing.{WroteCall, WroteBeside, DidCall};
 
 use cells::draft::Size;
-use cells::held::Tree;
+use cells::held::Current;
 use doing::do_one;
 use memory::lent::{Kept, Memory, Side, TreeRoom};
 use memory::trees::{tree, turned};
@@ -26,23 +26,19 @@ pub struct Did {
 
 // Does a call that writes, beside the tree that stands.
 fn write_call(
-    tree: Tree,
-    room: u64,
+    current: Current<'_>,
     call: &[u8],
     out: &mut [u8],
     places: &mut [u32],
 ) -> Result<Size, Refusal>
-    requires holds { Holds tree.bytes.now tree.places.now }
-    requires fits { Fits room (state_of tree.bytes.now tree.places.now) }
-    requires calm { Calm (state_of tree.bytes.now tree.places.now) }
-    requires suits { Suits room out.old places.old }
+    requires suits { Suits current.room out.old places.old }
     requires writes { looks (screened call.now) ≡ false }
-    ensures { WroteCall room call.now (state_of tree.entry.bytes.now tree.entry.places.now) result out.new places.new }
+    ensures { WroteCall current.entry.room call.now (tree_state current.entry.tree) result out.new places.new }
 {
     let asked = ask(call)?;
     match asked {
         Asked::Look(_) | Asked::Kids(_) => unreachable!(),
-        Asked::Write(act) => do_one(tree, room, act, out, places),
+        Asked::Write(act) => do_one(current, act, out, places),
     }
 }
 
@@ -65,9 +61,12 @@ fn write_beside(kept: Kept, memory: &mut Memory, slot: usize) -> Result<Size, Re
                     places: &mut [],
                 },
             );
-            let last = tree(kept, memory);
+            let current = Current {
+                tree: tree(kept, memory),
+                room: kept.room,
+            };
             let call = call_at(kept, memory, slot);
-            let written = write_call(last, kept.room, call, bytes, places);
+            let written = write_call(current, call, bytes, places);
             memory.right = TreeRoom { bytes, places };
             written
         }
@@ -79,9 +78,12 @@ fn write_beside(kept: Kept, memory: &mut Memory, slot: usize) -> Result<Size, Re
                     places: &mut [],
                 },
             );
-            let last = tree(kept, memory);
+            let current = Current {
+                tree: tree(kept, memory),
+                room: kept.room,
+            };
             let call = call_at(kept, memory, slot);
-            let written = write_call(last, kept.room, call, bytes, places);
+            let written = write_call(current, call, bytes, places);
             memory.left = TreeRoom { bytes, places };
             written
         }

@@ -14,9 +14,9 @@ use Rattle.service.proofs.clerk.answer_from.Goals as goal
 
 pub say_kids-requires-clause-room : goal.say_kids-requires-clause-room
 say_kids-requires-clause-room c =
-    let mem = c.args.tree.bytes.now in
-    let ps = c.args.tree.places.now in
-    omega (arith, weight_count (entries_of mem ps), length_entries mem ps, c.requires.fits.weighs, c.requires.room)
+    let mem = c.args.current.tree.bytes.now in
+    let ps = c.args.current.tree.places.now in
+    omega (arith, weight_count (entries_of mem ps), length_entries mem ps, c.args.current.fits.weighs, c.requires.room)
 
 pub say_write-requires-clause-range : goal.say_write-requires-clause-range
 say_write-requires-clause-range c =
@@ -28,18 +28,18 @@ pub returns-in-Err : goal.returns-in-Err
 returns-in-Err c = answers_at_once _ _ _ _ _ _ (told_at_once c.in-Err.why) c.say_refused.result c.in-Err.ensures (subst (λ (k : ℕ). Says (No 0 k) c.say_refused.new.out c.say_refused.result) c.number.ensures c.say_refused.ensures)
 
 pub returns-in-Look : goal.returns-in-Look
-returns-in-Look c = answers_look _ _ _ _ _ _ (path_now c.in-Look.path) c.say_look.result (asked_is (screened c.args.call.now) c.in-Ok.asked (asked.Look c.in-Look.path) c.in-Ok.ensures c.in-Look.is).0 (c.say_look.ensures c.args.room)
+returns-in-Look c = answers_look _ _ _ _ _ _ (path_now c.in-Look.path) c.say_look.result (asked_is (screened c.args.call.now) c.in-Ok.asked (asked.Look c.in-Look.path) c.in-Ok.ensures c.in-Look.is).0 (c.say_look.ensures c.args.current.room)
 
 pub returns-in-Kids : goal.returns-in-Kids
-returns-in-Kids c = answers_kids _ _ _ _ _ _ (path_now c.in-Kids.path) c.say_kids.result (asked_is (screened c.args.call.now) c.in-Ok.asked (asked.Kids c.in-Kids.path) c.in-Ok.ensures c.in-Kids.is).0 (c.say_kids.ensures c.args.room)
+returns-in-Kids c = answers_kids _ _ _ _ _ _ (path_now c.in-Kids.path) c.say_kids.result (asked_is (screened c.args.call.now) c.in-Ok.asked (asked.Kids c.in-Kids.path) c.in-Ok.ensures c.in-Kids.is).0 (c.say_kids.ensures c.args.current.room)
 
 pub returns-in-Write : goal.returns-in-Write
 returns-in-Write c =
-    let s = state_of c.args.tree.bytes.now c.args.tree.places.now in
+    let s = state_of c.args.current.tree.bytes.now c.args.current.tree.places.now in
     let a = c.in-Write.act in
     let w = c.do_one-written.result in
     let e = c.do_one-written.ensures in
     let is = (asked_is (screened c.args.call.now) c.in-Ok.asked (asked.Write a) c.in-Ok.ensures c.in-Write.is).0 in
     let told = subst (λ (k : Outcome). Says (say_to (LetIn (Do (act_of a ∷ []))) k) c.say_write.new.out c.say_write.result) (kept_by w c.map.result _ c.map.ensures.cases) c.say_write.ensures in
-    subst (λ (z : Option Size). Answers c.args.room c.args.call.now s (record { reply = c.say_write.result; next = z }) c.do_one-written.new.out c.do_one-written.new.places c.say_write.new.out) (sym (next_by w c.ok.result c.ok.ensures.value))
-    (answers_write c.args.room c.args.call.now s c.do_one-written.new.out c.do_one-written.new.places c.say_write.new.out (act_of a) w c.say_write.result is (wrote c.args.room (act_of a) s w _ _ e.answer e.drafts e.fits) told)
+    subst (λ (z : Option Size). Answers c.args.current.room c.args.call.now s (record { reply = c.say_write.result; next = z }) c.do_one-written.new.out c.do_one-written.new.places c.say_write.new.out) (sym (next_by w c.ok.result c.ok.ensures.value))
+    (answers_write c.args.current.room c.args.call.now s c.do_one-written.new.out c.do_one-written.new.places c.say_write.new.out (act_of a) w c.say_write.result is (wrote c.args.current.room (act_of a) s w _ _ e.answer e.drafts e.fits) told)
