@@ -1,5 +1,6 @@
 // Who counts, and whether those are more than half.
-ghost use Rattle.std.specs.Prelude.{◌≡◌, ◌<◌, ◌≤◌};
+ghost use Rattle.std.specs.Prelude.{◌≡◌, ℕ, ◌*◌, ◌<◌, ◌≤◌, Bool, nat_lt};
+ghost use Rattle.runs.specs.Replicas.{how_many};
 ghost use Rattle.agreement.specs.Machine.{counts, quorum};
 
 use agreement::Place;
@@ -9,10 +10,22 @@ pub fn does_count(votes: [Option<u64>; 7], places: [Place; 7], s: usize) -> bool
     requires { s < 7 }
     ensures { result ≡ counts votes places s }
 {
-    match votes[s] {
-        None => false,
-        Some(y) => y == places[s].incarnation,
+    votes[s] == Some(places[s].incarnation)
+}
+
+// Do more than half of all replicas pass a test.
+pub fn more_than_half<F: Fn(u8) -> bool>(all: u8, passes: F) -> bool
+    requires few { all ≤ 7 }
+    requires callable { (j : ℕ) → j < all → F.pre passes j }
+    ensures { (test : ℕ → Bool) → ((j : ℕ) (b : Bool) → j < all → F.post passes j b → b ≡ test j) → result ≡ nat_lt all (2 * how_many all test) }
+{
+    let mut some: u8 = 0;
+    for j in 0..all {
+        if passes(j) {
+            some += 1;
+        }
     }
+    all < 2 * some
 }
 
 // Did more than half vote by the incarnations that their places name.
@@ -20,12 +33,5 @@ pub fn is_quorum(all: u8, places: [Place; 7], votes: [Option<u64>; 7]) -> bool
     requires { all ≤ 7 }
     ensures { result ≡ quorum all places votes }
 {
-    let mut some: u8 = 0;
-    for i in 0..all {
-        let s = i as usize;
-        if does_count(votes, places, s) {
-            some += 1;
-        }
-    }
-    all < 2 * some
+    more_than_half(all, |j| does_count(votes, places, j as usize))
 }
