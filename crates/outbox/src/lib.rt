@@ -1,10 +1,12 @@
 // What a turn says, as a short list of headers by value. A proposal that is said is the one that is held when the turn ends, and a call lies in a slot of memory: so headers carry neither.
 #![tactic(auto)]
 
-ghost use Rattle.std.specs.Prelude.{◌≡◌, ◌+◌, ◌<◌, ◌≤◌, List, [], ◌∷◌, ◌++◌};
-ghost use Rattle.outbox.specs.Deeds.{list_of, aliveBy, word_by, tellBy, tellAllBy, askBy, askAllBy, tellDoneBy, Below};
+ghost use Rattle.std.specs.Prelude.{◌≡◌, ℕ, ◌+◌, ◌<◌, ◌≤◌, List, [], ◌∷◌, ◌++◌, length};
+ghost use Rattle.outbox.specs.declared.Deed.{Deed};
+ghost use Rattle.outbox.specs.Deeds.{said, eachOf, aliveBy, word_by, tellBy, tellAllBy, askBy, askAllBy, tellDoneBy, Below};
 
 use agreement::{Agreement, Joining, ProposalId, View};
+use std::marker::Model;
 use voting::quorum::does_count;
 
 // A message, but for the proposal or the call that it carries.
@@ -44,35 +46,6 @@ pub enum Deed {
     Whole,
 }
 
-// The deeds of a turn, in their order.
-#[derive(Clone, Copy)]
-pub struct Outbox {
-    pub count: usize,
-    pub deeds: [Deed; 24],
-}
-
-// Nothing is done yet.
-pub fn empty() -> Outbox
-    ensures list { list_of result ≡ [] }
-    ensures count { result.count ≡ 0 }
-{
-    Outbox {
-        count: 0,
-        deeds: [Deed::Whole; 24],
-    }
-}
-
-// One deed more.
-pub fn push(mut outbox: Outbox, deed: Deed) -> Outbox
-    requires { outbox.count < 24 }
-    ensures list { list_of result ≡ list_of outbox ++ (deed ∷ []) }
-    ensures count { result.count ≡ outbox.count + 1 }
-{
-    outbox.deeds[outbox.count] = deed;
-    outbox.count += 1;
-    outbox
-}
-
 // What a leader says to a replica that answered for what it holds: that it still leads.
 pub fn alive_to(a: Agreement, j: u8) -> Word
     requires { j < 7 }
@@ -96,84 +69,136 @@ pub fn word_to(a: Agreement, j: u8) -> Word
     }
 }
 
-// A leader speaks to one replica, if that is another.
-pub fn tell(outbox: Outbox, a: Agreement, j: u8) -> Outbox
-    requires { (j < 7) × (outbox.count < 24) }
-    ensures list { list_of result ≡ list_of outbox ++ tellBy a j }
-    ensures count { result.count ≤ outbox.count + 1 }
+// What a leader says to a replica, if that is another.
+fn told(a: Agreement, j: u8) -> Option<Word>
+    requires { j < 7 }
+    ensures { said j result ≡ tellBy a j }
 {
     if j == a.me {
-        return outbox;
+        return None;
     }
-    push(
-        outbox,
-        Deed::Say {
-            to: j,
-            word: word_to(a, j),
-        },
-    )
+    Some(word_to(a, j))
 }
 
-// A leader speaks to all others.
-pub fn tell_all(mut outbox: Outbox, a: Agreement) -> Outbox
-    requires { (a.all ≤ 7) × (outbox.count + 7 ≤ 24) }
-    ensures list { list_of result ≡ list_of outbox ++ tellAllBy a }
-    ensures count { result.count ≤ outbox.count + a.all }
-{
-    for j in 0..a.all {
-        outbox = tell(outbox, a, j);
-    }
-    outbox
-}
-
-// A candidate asks one replica for its promise, if that is another whose promise it does not have.
-fn ask(outbox: Outbox, a: Agreement, j: u8) -> Outbox
-    requires { (j < 7) × (outbox.count < 24) }
-    ensures list { list_of result ≡ list_of outbox ++ askBy a j }
-    ensures count { result.count ≤ outbox.count + 1 }
+// What a candidate says to a replica, if that is another whose promise it does not have.
+fn asked(a: Agreement, j: u8) -> Option<Word>
+    requires { j < 7 }
+    ensures { said j result ≡ askBy a j }
 {
     if j == a.me || does_count(a.votes, a.places, j as usize) {
-        return outbox;
+        return None;
     }
-    push(
-        outbox,
-        Deed::Say {
-            to: j,
-            word: Word::Prepare(a.promised),
-        },
-    )
+    Some(Word::Prepare(a.promised))
 }
 
-// A candidate asks all whose promise it does not have.
-pub fn ask_all(mut outbox: Outbox, a: Agreement) -> Outbox
-    requires { (a.all ≤ 7) × (outbox.count + 7 ≤ 24) }
-    ensures list { list_of result ≡ list_of outbox ++ askAllBy a }
-    ensures count { result.count ≤ outbox.count + a.all }
-{
-    for j in 0..a.all {
-        outbox = ask(outbox, a, j);
-    }
-    outbox
+// The deeds of a turn, in their order: at most 24, so that they need no memory but their own.
+#[derive(Drop)]
+pub struct Outbox {
+    count: usize,
+    deeds: [Deed; 24],
 }
 
-// A leader tells the replica whose job it was, if that is another, that what it holds is chosen.
-pub fn tell_done(outbox: Outbox, a: Agreement, job: Option<u8>) -> Outbox
-    requires job { Below job }
-    requires room { outbox.count < 24 }
-    ensures list { list_of result ≡ list_of outbox ++ tellDoneBy a job }
-    ensures count { result.count ≤ outbox.count + 1 }
-{
-    let Some(j) = job else {
-        return outbox;
-    };
-    if j == a.me {
-        return outbox;
+impl Model for Outbox {
+    ghost use Rattle.std.specs.Prelude.{◌≤◌, List, take};
+    ghost use Rattle.outbox.specs.declared.Deed.{Deed};
+
+    ghost Value = { List Deed };
+
+    ghost view = { λ outbox. take outbox.count outbox.deeds };
+
+    ghost invariant = { λ outbox. outbox.count ≤ 24 };
+}
+
+impl Outbox {
+    // Nothing is done yet.
+    pub fn new() -> Self
+        ensures { result ≡ [] }
+    {
+        Outbox {
+            count: 0,
+            deeds: [Deed::Whole; 24],
+        }
     }
-    push(
-        outbox,
-        Deed::Say {
-            to: j,
-            word: alive_to(a, j),
-        },
-    )
+
+    // What is done so far, in order.
+    pub fn deeds(&self) -> &[Deed]
+        ensures { result.now ≡ self.now }
+    {
+        &self.deeds[..self.count]
+    }
+
+    // One deed more.
+    pub fn push(&mut self, deed: Deed)
+        requires { length self.old < 24 }
+        ensures { self.new ≡ self.old ++ (deed ∷ []) }
+    {
+        self.deeds[self.count] = deed;
+        self.count += 1;
+    }
+
+    // Something is said to one replica, if there is something to say.
+    fn say(&mut self, j: u8, word: Option<Word>)
+        requires { length self.old < 24 }
+        ensures list { self.new ≡ self.old ++ said j word }
+        ensures count { length self.new ≤ length self.old + 1 }
+    {
+        if let Some(word) = word {
+            self.push(Deed::Say { to: j, word });
+        }
+    }
+
+    // What there is to say to each of all replicas is said.
+    fn say_each<F: Fn(u8) -> Option<Word>>(&mut self, all: u8, word: F)
+        requires room { length self.old + all ≤ 24 }
+        requires callable { (j : ℕ) → j < all → F.pre word j }
+        ensures list { (f : ℕ → List Deed) → ((j : ℕ) (w : _) → j < all → F.post word j w → said j w ≡ f j) → self.new ≡ self.old ++ eachOf all f }
+        ensures count { length self.new ≤ length self.old + all }
+    {
+        for j in 0..all {
+            self.say(j, word(j));
+        }
+    }
+
+    // A leader speaks to one replica, if that is another.
+    pub fn tell(&mut self, a: Agreement, j: u8)
+        requires { (j < 7) × (length self.old < 24) }
+        ensures list { self.new ≡ self.old ++ tellBy a j }
+        ensures count { length self.new ≤ length self.old + 1 }
+    {
+        self.say(j, told(a, j));
+    }
+
+    // A leader speaks to all others.
+    pub fn tell_all(&mut self, a: Agreement)
+        requires { (a.all ≤ 7) × (length self.old + 7 ≤ 24) }
+        ensures list { self.new ≡ self.old ++ tellAllBy a }
+        ensures count { length self.new ≤ length self.old + a.all }
+    {
+        self.say_each(a.all, |j| told(a, j));
+    }
+
+    // A candidate asks all whose promise it does not have.
+    pub fn ask_all(&mut self, a: Agreement)
+        requires { (a.all ≤ 7) × (length self.old + 7 ≤ 24) }
+        ensures list { self.new ≡ self.old ++ askAllBy a }
+        ensures count { length self.new ≤ length self.old + a.all }
+    {
+        self.say_each(a.all, |j| asked(a, j));
+    }
+
+    // A leader tells the replica whose job it was, if that is another, that what it holds is chosen.
+    pub fn tell_done(&mut self, a: Agreement, job: Option<u8>)
+        requires job { Below job }
+        requires room { length self.old < 24 }
+        ensures list { self.new ≡ self.old ++ tellDoneBy a job }
+        ensures count { length self.new ≤ length self.old + 1 }
+    {
+        match job {
+            Some(j) if j != a.me => self.push(Deed::Say {
+                to: j,
+                word: alive_to(a, j),
+            }),
+            _ => {}
+        }
+    }
 }
