@@ -2,12 +2,14 @@
 #![tactic(auto)]
 
 ghost use Rattle.std.specs.Prelude.{◌≡◌, ℕ, ◌+◌, ◌<◌, ◌≤◌, List, [], ◌∷◌, ◌++◌, length};
+ghost use Rattle.voting.specs.declared.replica.Replica.{Replica};
 ghost use Rattle.outbox.specs.declared.Deed.{Deed};
 ghost use Rattle.outbox.specs.Deeds.{said, eachOf, aliveBy, word_by, tellBy, tellAllBy, askBy, askAllBy, tellDoneBy, Below};
 
 use agreement::{Agreement, Joining, ProposalId, View};
 use std::marker::Model;
 use voting::quorum::does_count;
+use voting::replica::Replica;
 
 // A message, but for the proposal or the call that it carries.
 #[derive(Clone, Copy)]
@@ -47,45 +49,41 @@ pub enum Deed {
 }
 
 // What a leader says to a replica that answered for what it holds: that it still leads.
-pub fn alive_to(a: Agreement, j: u8) -> Word
-    requires { j < 7 }
-    ensures { result ≡ aliveBy a j }
+pub fn alive_to(a: Agreement, j: Replica) -> Word
+    ensures { result ≡ aliveBy a j.number }
 {
     Word::Alive {
         id: a.accepted,
         chosen: a.chosen,
-        named: a.places[j as usize].incarnation,
+        named: a.places[j.number as usize].incarnation,
     }
 }
 
 // What a leader says to a replica.
-pub fn word_to(a: Agreement, j: u8) -> Word
-    requires { j < 7 }
-    ensures { result ≡ word_by a j }
+pub fn word_to(a: Agreement, j: Replica) -> Word
+    ensures { result ≡ word_by a j.number }
 {
-    match a.votes[j as usize] {
+    match a.votes[j.number as usize] {
         Some(_) => alive_to(a, j),
         None => Word::Propose { chosen: a.chosen },
     }
 }
 
 // What a leader says to a replica, if that is another.
-fn told(a: Agreement, j: u8) -> Option<Word>
-    requires { j < 7 }
-    ensures { said j result ≡ tellBy a j }
+fn told(a: Agreement, j: Replica) -> Option<Word>
+    ensures { said j.number result ≡ tellBy a j.number }
 {
-    if j == a.me {
+    if j.number == a.me {
         return None;
     }
     Some(word_to(a, j))
 }
 
 // What a candidate says to a replica, if that is another whose promise it does not have.
-fn asked(a: Agreement, j: u8) -> Option<Word>
-    requires { j < 7 }
-    ensures { said j result ≡ askBy a j }
+fn asked(a: Agreement, j: Replica) -> Option<Word>
+    ensures { said j.number result ≡ askBy a j.number }
 {
-    if j == a.me || does_count(a.votes, a.places, j as usize) {
+    if j.number == a.me || does_count(a.votes, a.places, j) {
         return None;
     }
     Some(Word::Prepare(a.promised))
@@ -137,32 +135,34 @@ impl Outbox {
     }
 
     // Something is said to one replica, if there is something to say.
-    fn say(&mut self, j: u8, word: Option<Word>)
+    fn say(&mut self, j: Replica, word: Option<Word>)
         requires { length self.old < 24 }
-        ensures list { self.new ≡ self.old ++ said j word }
+        ensures list { self.new ≡ self.old ++ said j.number word }
         ensures count { length self.new ≤ length self.old + 1 }
     {
         if let Some(word) = word {
-            self.push(Deed::Say { to: j, word });
+            self.push(Deed::Say { to: j.number, word });
         }
     }
 
     // What there is to say to each of all replicas is said.
-    fn say_each<F: Fn(u8) -> Option<Word>>(&mut self, all: u8, word: F)
+    fn say_each<F: Fn(Replica) -> Option<Word>>(&mut self, all: u8, word: F)
+        requires few { all ≤ 7 }
         requires room { length self.old + all ≤ 24 }
-        requires callable { (j : ℕ) → j < all → F.pre word j }
-        ensures list { (f : ℕ → List Deed) → ((j : ℕ) (w : _) → j < all → F.post word j w → said j w ≡ f j) → self.new ≡ self.old ++ eachOf all f }
+        requires callable { F.IsAlwaysCallable word }
+        ensures list { (f : ℕ → List Deed) → ((j : Replica) (w : _) → F.post word j w → said j.number w ≡ f j.number) → self.new ≡ self.old ++ eachOf all f }
         ensures count { length self.new ≤ length self.old + all }
     {
-        for j in 0..all {
+        for number in 0..all {
+            let j = Replica { number };
             self.say(j, word(j));
         }
     }
 
     // A leader speaks to one replica, if that is another.
-    pub fn tell(&mut self, a: Agreement, j: u8)
-        requires { (j < 7) × (length self.old < 24) }
-        ensures list { self.new ≡ self.old ++ tellBy a j }
+    pub fn tell(&mut self, a: Agreement, j: Replica)
+        requires { length self.old < 24 }
+        ensures list { self.new ≡ self.old ++ tellBy a j.number }
         ensures count { length self.new ≤ length self.old + 1 }
     {
         self.say(j, told(a, j));
@@ -194,10 +194,10 @@ impl Outbox {
         ensures count { length self.new ≤ length self.old + 1 }
     {
         match job {
-            Some(j) if j != a.me => self.push(Deed::Say {
-                to: j,
-                word: alive_to(a, j),
-            }),
+            Some(number) if number != a.me => {
+                let word = alive_to(a, Replica { number });
+                self.push(Deed::Say { to: number, word });
+            }
             _ => {}
         }
     }

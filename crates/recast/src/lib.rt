@@ -9,13 +9,13 @@ ghost use Rattle.agreement.specs.Machine.{own_vote, own_view, quorum, voting};
 use agreement::{Agreement, Place, ProposalId, Role, View};
 use voting::order::is_id;
 use voting::quorum::is_quorum;
+use voting::replica::Replica;
 
-// A vote of the replica `by`, one of at most seven, by this incarnation of it.
+// A vote of a replica, by this incarnation of it.
 #[derive(Clone, Copy, PartialEq, Eq)]
 pub struct Vote {
-    pub by: u8,
+    pub by: Replica,
     pub incarnation: u64,
-    ghost in_range: { by < 7 },
 }
 
 // What is by value of a proposal: its place in the order of all, and the places that it names.
@@ -78,23 +78,20 @@ pub fn learned(a: Agreement) -> Agreement
     Agreement { chosen: true, ..a }
 }
 
-// The votes, with one more.
-fn with_vote(mut votes: [Option<u64>; 7], vote: Vote) -> [Option<u64>; 7]
-    ensures { result ≡ slice_set votes vote.by (Some vote.incarnation) }
+// It has one vote more, and this role.
+fn with_vote(a: Agreement, role: Role, vote: Vote) -> Agreement
+    ensures { result ≡ voting role a.promised a.accepted a.chosen (slice_set a.votes vote.by.number (Some vote.incarnation)) a.places a }
 {
-    votes[vote.by as usize] = Some(vote.incarnation);
-    votes
+    let mut votes = a.votes;
+    votes[vote.by.number as usize] = Some(vote.incarnation);
+    Agreement { role, votes, ..a }
 }
 
 // A leader counts a vote.
 pub fn counted(a: Agreement, vote: Vote) -> Agreement
-    ensures { result ≡ voting Leader a.promised a.accepted a.chosen (slice_set a.votes vote.by (Some vote.incarnation)) a.places a }
+    ensures { result ≡ voting Leader a.promised a.accepted a.chosen (slice_set a.votes vote.by.number (Some vote.incarnation)) a.places a }
 {
-    Agreement {
-        role: Role::Leader,
-        votes: with_vote(a.votes, vote),
-        ..a
-    }
+    with_vote(a, Role::Leader, vote)
 }
 
 // It holds another proposal, which is not known to be chosen.
@@ -161,18 +158,14 @@ pub fn entering(a: Agreement) -> Agreement
 
 // A candidate got a promise, and holds on to what it holds.
 pub fn reported(a: Agreement, promise: Vote) -> Agreement
-    ensures { result ≡ voting Candidate a.promised a.accepted a.chosen (slice_set a.votes promise.by (Some promise.incarnation)) a.places a }
+    ensures { result ≡ voting Candidate a.promised a.accepted a.chosen (slice_set a.votes promise.by.number (Some promise.incarnation)) a.places a }
 {
-    Agreement {
-        role: Role::Candidate,
-        votes: with_vote(a.votes, promise),
-        ..a
-    }
+    with_vote(a, Role::Candidate, promise)
 }
 
 // A candidate got a promise with a higher proposal: it holds that one, which is not known to be chosen.
 pub fn adopting(a: Agreement, promise: Vote, higher: Proposed) -> Agreement
-    ensures { result ≡ voting Candidate a.promised higher.id false (slice_set a.votes promise.by (Some promise.incarnation)) higher.places a }
+    ensures { result ≡ voting Candidate a.promised higher.id false (slice_set a.votes promise.by.number (Some promise.incarnation)) higher.places a }
 {
     with_proposal(reported(a, promise), higher)
 }

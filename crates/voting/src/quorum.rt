@@ -2,26 +2,28 @@
 ghost use Rattle.std.specs.Prelude.{◌≡◌, ℕ, ◌*◌, ◌<◌, ◌≤◌, Bool, nat_lt};
 ghost use Rattle.runs.specs.Replicas.{how_many};
 ghost use Rattle.agreement.specs.Machine.{counts, quorum};
+ghost use Rattle.voting.specs.declared.replica.Replica.{Replica};
 
+use crate::replica::Replica;
 use agreement::Place;
 
 // Did a replica vote by the incarnation that its place names.
-pub fn does_count(votes: [Option<u64>; 7], places: [Place; 7], s: usize) -> bool
-    requires { s < 7 }
-    ensures { result ≡ counts votes places s }
+pub fn does_count(votes: [Option<u64>; 7], places: [Place; 7], j: Replica) -> bool
+    ensures { result ≡ counts votes places j.number }
 {
-    votes[s] == Some(places[s].incarnation)
+    let j = j.number as usize;
+    votes[j] == Some(places[j].incarnation)
 }
 
 // Do more than half of all replicas pass a test.
-pub fn more_than_half<F: Fn(u8) -> bool>(all: u8, passes: F) -> bool
+pub fn more_than_half<F: Fn(Replica) -> bool>(all: u8, passes: F) -> bool
     requires few { all ≤ 7 }
-    requires callable { (j : ℕ) → j < all → F.pre passes j }
-    ensures { (test : ℕ → Bool) → ((j : ℕ) (b : Bool) → j < all → F.post passes j b → b ≡ test j) → result ≡ nat_lt all (2 * how_many all test) }
+    requires callable { F.IsAlwaysCallable passes }
+    ensures { (test : ℕ → Bool) → ((j : Replica) (b : Bool) → F.post passes j b → b ≡ test j.number) → result ≡ nat_lt all (2 * how_many all test) }
 {
     let mut some: u8 = 0;
-    for j in 0..all {
-        if passes(j) {
+    for number in 0..all {
+        if passes(Replica { number }) {
             some += 1;
         }
     }
@@ -33,5 +35,5 @@ pub fn is_quorum(all: u8, places: [Place; 7], votes: [Option<u64>; 7]) -> bool
     requires { all ≤ 7 }
     ensures { result ≡ quorum all places votes }
 {
-    more_than_half(all, |j| does_count(votes, places, j as usize))
+    more_than_half(all, |j| does_count(votes, places, j))
 }

@@ -5,6 +5,7 @@ ghost use Rattle.agreement.specs.Machine.{is_leader, is_candidate, is_member, ke
 ghost use Rattle.voting.specs.Values.{Able, heard_most_by, ticked_by, may_stand_by};
 
 use crate::quorum::more_than_half;
+use crate::replica::Replica;
 use agreement::{Agreement, Role};
 
 // kept: each of the two states one test of the machine; a test over any role would be the derived `==` under another name.
@@ -55,7 +56,7 @@ pub fn heard_most(a: Agreement) -> bool
     requires { a.all ≤ 7 }
     ensures { result ≡ heard_most_by a }
 {
-    is_leader(a.role) && more_than_half(a.all, |j| j == a.me || a.heard[j as usize])
+    is_leader(a.role) && more_than_half(a.all, |j| j.number == a.me || a.heard[j.number as usize])
 }
 
 // A tick: a leader that heard more than half has new patience, and listens anew; patience falls.
@@ -80,10 +81,9 @@ pub fn may_stand(a: Agreement) -> bool
 }
 
 // A replica was heard.
-pub fn heard_from(mut a: Agreement, j: u8) -> Agreement
-    requires { j < 7 }
-    ensures { result ≡ keeping_time a.patience (slice_set a.heard j true) a }
+pub fn heard_from(mut a: Agreement, j: Replica) -> Agreement
+    ensures { result ≡ keeping_time a.patience (slice_set a.heard j.number true) a }
 {
-    a.heard[j as usize] = true;
+    a.heard[j.number as usize] = true;
     a
 }

@@ -5,13 +5,13 @@ use Rattle.voting.proofs.Counting.{one_more}
 use Rattle.voting.proofs.quorum.more_than_half.Goals as goal
 use Rattle.voting.proofs.quorum.more_than_half.Goals.{then-passes, else-passes}
 
-pub loop-j-init : goal.loop-j-init
+pub loop-number-init : goal.loop-number-init
 unfolding how_many
-loop-j-init g c = record { counted = λ test agrees. refl; small = lit≤ tt }
+loop-number-init g c = record { counted = λ test agrees. refl; small = lit≤ tt }
 
-pub loop-j-preserved : goal.loop-j-preserved
-loop-j-preserved g c =
+pub loop-number-preserved : goal.loop-number-preserved
+loop-number-preserved g c =
     elim c.if-passes.branch [
-      | then-passes w ↦ record { counted = λ test agrees. (let e = agrees c.loop-j.j c.passes.result c.loop-j-test.true c.passes.ensures in let i = c.loop-j.invariant.counted test agrees in rw one_more (grind (arith, nat_tests))); small = omega (arith, w.some-is) }
-      | else-passes w ↦ record { counted = λ test agrees. (let e = agrees c.loop-j.j c.passes.result c.loop-j-test.true c.passes.ensures in let i = c.loop-j.invariant.counted test agrees in rw one_more (grind (arith, nat_tests))); small = omega (arith, w.some-is) }
+      | then-passes w ↦ record { counted = λ test agrees. (let e = agrees _ c.passes.result c.passes.ensures in let i = c.loop-number.invariant.counted test agrees in rw one_more (grind (arith, nat_tests))); small = omega (arith, w.some-is) }
+      | else-passes w ↦ record { counted = λ test agrees. (let e = agrees _ c.passes.result c.passes.ensures in let i = c.loop-number.invariant.counted test agrees in rw one_more (grind (arith, nat_tests))); small = omega (arith, w.some-is) }
     ]
