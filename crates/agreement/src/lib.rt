@@ -54,6 +54,7 @@ pub struct Joining {
 // chosen: it knows that accepted is. votes: the promises that a candidate got, or who told a leader that it holds accepted, each with its incarnation. places: those of accepted.
 // no: how many calls of this incarnation were answered. patience: ticks until it stands. heard: who answered a leader since its patience was renewed.
 // job: whose job accepted does. turn: whom the leader serves next. joins: who wants to be written in.
+// kept: the machine of specs/ changes one of the arrays at a time, and each is a list of its own there.
 #[derive(Clone, Copy)]
 pub struct Agreement {
     pub me: u8,

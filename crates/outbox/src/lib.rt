@@ -50,20 +50,20 @@ pub enum Deed {
 
 // What a leader says to a replica that answered for what it holds: that it still leads.
 pub fn alive_to(a: Agreement, j: Replica) -> Word
-    ensures { result ≡ aliveBy a j.number }
+    ensures { result ≡ aliveBy a j.index }
 {
     Word::Alive {
         id: a.accepted,
         chosen: a.chosen,
-        named: a.places[j.number as usize].incarnation,
+        named: a.places[j.index as usize].incarnation,
     }
 }
 
 // What a leader says to a replica.
 pub fn word_to(a: Agreement, j: Replica) -> Word
-    ensures { result ≡ word_by a j.number }
+    ensures { result ≡ word_by a j.index }
 {
-    match a.votes[j.number as usize] {
+    match a.votes[j.index as usize] {
         Some(_) => alive_to(a, j),
         None => Word::Propose { chosen: a.chosen },
     }
@@ -71,9 +71,9 @@ pub fn word_to(a: Agreement, j: Replica) -> Word
 
 // What a leader says to a replica, if that is another.
 fn told(a: Agreement, j: Replica) -> Option<Word>
-    ensures { said j.number result ≡ tellBy a j.number }
+    ensures { said j.index result ≡ tellBy a j.index }
 {
-    if j.number == a.me {
+    if j.index == a.me {
         return None;
     }
     Some(word_to(a, j))
@@ -81,15 +81,16 @@ fn told(a: Agreement, j: Replica) -> Option<Word>
 
 // What a candidate says to a replica, if that is another whose promise it does not have.
 fn asked(a: Agreement, j: Replica) -> Option<Word>
-    ensures { said j.number result ≡ askBy a j.number }
+    ensures { said j.index result ≡ askBy a j.index }
 {
-    if j.number == a.me || does_count(a.votes, a.places, j) {
+    if j.index == a.me || does_count(a.votes, a.places, j) {
         return None;
     }
     Some(Word::Prepare(a.promised))
 }
 
-// The deeds of a turn, in their order: at most 24, so that they need no memory but their own.
+// The deeds of a turn, in their order.
+// kept: a turn takes no memory from the heap, so its deeds, at most 24, lie in the outbox itself.
 #[derive(Drop)]
 pub struct Outbox {
     count: usize,
@@ -126,6 +127,7 @@ impl Outbox {
     }
 
     // One deed more.
+    // kept: whether there is room is known only of some outboxes.
     pub fn push(&mut self, deed: Deed)
         requires { length self.old < 24 }
         ensures { self.new ≡ self.old ++ (deed ∷ []) }
@@ -135,34 +137,36 @@ impl Outbox {
     }
 
     // Something is said to one replica, if there is something to say.
+    // kept: whether there is room is known only of some outboxes.
     fn say(&mut self, j: Replica, word: Option<Word>)
         requires { length self.old < 24 }
-        ensures list { self.new ≡ self.old ++ said j.number word }
+        ensures list { self.new ≡ self.old ++ said j.index word }
         ensures count { length self.new ≤ length self.old + 1 }
     {
         if let Some(word) = word {
-            self.push(Deed::Say { to: j.number, word });
+            self.push(Deed::Say { to: j.index, word });
         }
     }
 
     // What there is to say to each of all replicas is said.
     fn say_each<F: Fn(Replica) -> Option<Word>>(&mut self, all: u8, word: F)
-        requires few { all ≤ 7 }
-        requires room { length self.old + all ≤ 24 }
+        requires room { (all ≤ 7) × (length self.old + 7 ≤ 24) }
         requires callable { F.IsAlwaysCallable word }
-        ensures list { (f : ℕ → List Deed) → ((j : Replica) (w : _) → F.post word j w → said j.number w ≡ f j.number) → self.new ≡ self.old ++ eachOf all f }
+        ensures list { (f : ℕ → List Deed) → ((j : Replica) (w : _) → F.post word j w → said j.index w ≡ f j.index) → self.new ≡ self.old ++ eachOf all f }
         ensures count { length self.new ≤ length self.old + all }
     {
-        for number in 0..all {
-            let j = Replica { number };
+        // kept: std says nothing of what a closure changed after `for_each`.
+        for index in 0..all {
+            let j = Replica { index };
             self.say(j, word(j));
         }
     }
 
     // A leader speaks to one replica, if that is another.
+    // kept: whether there is room is known only of some outboxes.
     pub fn tell(&mut self, a: Agreement, j: Replica)
         requires { length self.old < 24 }
-        ensures list { self.new ≡ self.old ++ tellBy a j.number }
+        ensures list { self.new ≡ self.old ++ tellBy a j.index }
         ensures count { length self.new ≤ length self.old + 1 }
     {
         self.say(j, told(a, j));
@@ -187,6 +191,7 @@ impl Outbox {
     }
 
     // A leader tells the replica whose job it was, if that is another, that what it holds is chosen.
+    // kept: whether there is room is known only of some outboxes.
     pub fn tell_done(&mut self, a: Agreement, job: Option<u8>)
         requires job { Below job }
         requires room { length self.old < 24 }
@@ -194,9 +199,9 @@ impl Outbox {
         ensures count { length self.new ≤ length self.old + 1 }
     {
         match job {
-            Some(number) if number != a.me => {
-                let word = alive_to(a, Replica { number });
-                self.push(Deed::Say { to: number, word });
+            Some(index) if index != a.me => {
+                let word = alive_to(a, Replica { index });
+                self.push(Deed::Say { to: index, word });
             }
             _ => {}
         }

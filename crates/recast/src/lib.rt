@@ -80,16 +80,16 @@ pub fn learned(a: Agreement) -> Agreement
 
 // It has one vote more, and this role.
 fn with_vote(a: Agreement, role: Role, vote: Vote) -> Agreement
-    ensures { result ≡ voting role a.promised a.accepted a.chosen (slice_set a.votes vote.by.number (Some vote.incarnation)) a.places a }
+    ensures { result ≡ voting role a.promised a.accepted a.chosen (slice_set a.votes vote.by.index (Some vote.incarnation)) a.places a }
 {
     let mut votes = a.votes;
-    votes[vote.by.number as usize] = Some(vote.incarnation);
+    votes[vote.by.index as usize] = Some(vote.incarnation);
     Agreement { role, votes, ..a }
 }
 
 // A leader counts a vote.
 pub fn counted(a: Agreement, vote: Vote) -> Agreement
-    ensures { result ≡ voting Leader a.promised a.accepted a.chosen (slice_set a.votes vote.by.number (Some vote.incarnation)) a.places a }
+    ensures { result ≡ voting Leader a.promised a.accepted a.chosen (slice_set a.votes vote.by.index (Some vote.incarnation)) a.places a }
 {
     with_vote(a, Role::Leader, vote)
 }
@@ -158,14 +158,14 @@ pub fn entering(a: Agreement) -> Agreement
 
 // A candidate got a promise, and holds on to what it holds.
 pub fn reported(a: Agreement, promise: Vote) -> Agreement
-    ensures { result ≡ voting Candidate a.promised a.accepted a.chosen (slice_set a.votes promise.by.number (Some promise.incarnation)) a.places a }
+    ensures { result ≡ voting Candidate a.promised a.accepted a.chosen (slice_set a.votes promise.by.index (Some promise.incarnation)) a.places a }
 {
     with_vote(a, Role::Candidate, promise)
 }
 
 // A candidate got a promise with a higher proposal: it holds that one, which is not known to be chosen.
 pub fn adopting(a: Agreement, promise: Vote, higher: Proposed) -> Agreement
-    ensures { result ≡ voting Candidate a.promised higher.id false (slice_set a.votes promise.by.number (Some promise.incarnation)) higher.places a }
+    ensures { result ≡ voting Candidate a.promised higher.id false (slice_set a.votes promise.by.index (Some promise.incarnation)) higher.places a }
 {
     with_proposal(reported(a, promise), higher)
 }

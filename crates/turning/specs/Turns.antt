@@ -1,9 +1,8 @@
 -- What a replica by value and lent memory stand for: the machine's mind; and a turn under way: what was done so far, and the mind that there is now.
 -- A proposal that is said is the one that is held, a call lies in its slot, an answer among those of this turn. Assumes nothing.
-use Rattle.std.specs.Prelude.{◌≡◌, ℕ, suc, ◌+◌, ◌<◌, ◌≤◌, Bool, not, ◌&&◌, List, ◌++◌, map, ◌==◌, nat_lt, slice_index}
+use Rattle.std.specs.Prelude.{◌≡◌, ℕ, suc, ◌+◌, Bool, not, ◌&&◌, List, map, ◌==◌, nat_lt, slice_index}
 use Rattle.std.specs.List.{between}
 use Rattle.runs.specs.Replicas.{Does, Says, Gives, Whole'}
-use Rattle.agreement.specs.declared.Agreement.{Agreement}
 use Rattle.agreement.specs.Content.{Proposal, limit}
 use Rattle.agreement.specs.Machine.{Msg, Prepare, Promise, Propose, Alive, Accepted, Join, Forward, Mind, accepted, is_member, then_do}
 use Rattle.agreement.specs.Machine as Machine

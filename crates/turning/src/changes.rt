@@ -36,7 +36,7 @@ pub fn ticked(mut turn: Turn) -> Turn
 
 // A replica was heard.
 pub fn heard_from(mut turn: Turn, j: Replica) -> Turn
-    ensures { MovesBy (λ room n. still (heard_from j.number n)) turn result }
+    ensures { MovesBy (λ room n. still (heard_from j.index n)) turn result }
 {
     turn.house.agreement = time::heard_from(turn.house.agreement, j);
     turn

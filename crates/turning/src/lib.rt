@@ -30,6 +30,7 @@ pub struct Turn {
 }
 
 // It is behind: let it promise what I promised.
+// kept: whether there is room is known only of some outboxes.
 pub fn catch_up(mut turn: Turn, j: u8) -> Turn
     requires { length turn.outbox < 24 }
     ensures moves { MovesBy (λ room. catch_up j) turn result }
@@ -41,9 +42,10 @@ pub fn catch_up(mut turn: Turn, j: u8) -> Turn
 }
 
 // A leader speaks to one replica, if that is another.
+// kept: whether there is room is known only of some outboxes.
 pub fn tell(mut turn: Turn, j: Replica) -> Turn
     requires { length turn.outbox < 24 }
-    ensures moves { MovesBy (λ room. «tell'» j.number) turn result }
+    ensures moves { MovesBy (λ room. «tell'» j.index) turn result }
     ensures count { length result.outbox ≤ length turn.outbox + 1 }
 {
     turn.outbox.tell(turn.house.agreement, j);
@@ -71,6 +73,7 @@ pub fn ask_all(mut turn: Turn) -> Turn
 }
 
 // The replica whose job it was, if that is another, hears that what is held is chosen.
+// kept: whether there is room is known only of some outboxes.
 pub fn tell_done(mut turn: Turn) -> Turn
     requires job { Below turn.house.agreement.job }
     requires room { length turn.outbox < 24 }
@@ -91,6 +94,7 @@ fn may_forward(house: House) -> bool
 }
 
 // The oldest call that waits goes to the replica that leads, if that is another.
+// kept: whether there is room is known only of some outboxes.
 pub fn forward(mut turn: Turn) -> Turn
     requires first { turn.house.kept.first < 8 }
     requires room { length turn.outbox < 24 }

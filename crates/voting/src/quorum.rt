@@ -9,9 +9,9 @@ use agreement::Place;
 
 // Did a replica vote by the incarnation that its place names.
 pub fn does_count(votes: [Option<u64>; 7], places: [Place; 7], j: Replica) -> bool
-    ensures { result ≡ counts votes places j.number }
+    ensures { result ≡ counts votes places j.index }
 {
-    let j = j.number as usize;
+    let j = j.index as usize;
     votes[j] == Some(places[j].incarnation)
 }
 
@@ -19,11 +19,12 @@ pub fn does_count(votes: [Option<u64>; 7], places: [Place; 7], j: Replica) -> bo
 pub fn more_than_half<F: Fn(Replica) -> bool>(all: u8, passes: F) -> bool
     requires few { all ≤ 7 }
     requires callable { F.IsAlwaysCallable passes }
-    ensures { (test : ℕ → Bool) → ((j : Replica) (b : Bool) → F.post passes j b → b ≡ test j.number) → result ≡ nat_lt all (2 * how_many all test) }
+    ensures { (test : ℕ → Bool) → ((j : Replica) (b : Bool) → F.post passes j b → b ≡ test j.index) → result ≡ nat_lt all (2 * how_many all test) }
 {
     let mut some: u8 = 0;
-    for number in 0..all {
-        if passes(Replica { number }) {
+    // kept: with `filter` and `count` the closure needs clauses of its own, and their proof did not close.
+    for index in 0..all {
+        if passes(Replica { index }) {
             some += 1;
         }
     }

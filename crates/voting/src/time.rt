@@ -31,6 +31,7 @@ pub fn is_member(role: Role) -> bool
 }
 
 // How many beats it has until it stands: 6 for a leader; for others by how far behind the replica that leads they are.
+// kept: agreement's state is by value, of any kind, and only some are able.
 pub fn patience_of(a: Agreement) -> u8
     requires { Able a }
     ensures is { result ≡ patience_of a }
@@ -43,6 +44,7 @@ pub fn patience_of(a: Agreement) -> u8
 }
 
 // Its patience as when it began to wait.
+// kept: agreement's state is by value, of any kind, and only some are able.
 pub fn anew(mut a: Agreement) -> Agreement
     requires { Able a }
     ensures { result ≡ keeping_time (patience_of a) a.heard a }
@@ -56,10 +58,11 @@ pub fn heard_most(a: Agreement) -> bool
     requires { a.all ≤ 7 }
     ensures { result ≡ heard_most_by a }
 {
-    is_leader(a.role) && more_than_half(a.all, |j| j.number == a.me || a.heard[j.number as usize])
+    is_leader(a.role) && more_than_half(a.all, |j| j.index == a.me || a.heard[j.index as usize])
 }
 
 // A tick: a leader that heard more than half has new patience, and listens anew; patience falls.
+// kept: agreement's state is by value, of any kind, and only some are able.
 pub fn ticked(mut a: Agreement) -> Agreement
     requires { Able a }
     ensures { result ≡ ticked_by a }
@@ -82,8 +85,8 @@ pub fn may_stand(a: Agreement) -> bool
 
 // A replica was heard.
 pub fn heard_from(mut a: Agreement, j: Replica) -> Agreement
-    ensures { result ≡ keeping_time a.patience (slice_set a.heard j.number true) a }
+    ensures { result ≡ keeping_time a.patience (slice_set a.heard j.index true) a }
 {
-    a.heard[j.number as usize] = true;
+    a.heard[j.index as usize] = true;
     a
 }

@@ -1,4 +1,3 @@
-use Rattle.std.proofs.Common.{arith}
 use Rattle.agreement.specs.Machine.{then_do}
 use Rattle.turning.proofs.Saying.{added_turn}
 use Rattle.turning.proofs.catch_up.Goals as goal

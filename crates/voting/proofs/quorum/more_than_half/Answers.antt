@@ -5,13 +5,13 @@ use Rattle.voting.proofs.Counting.{one_more}
 use Rattle.voting.proofs.quorum.more_than_half.Goals as goal
 use Rattle.voting.proofs.quorum.more_than_half.Goals.{then-passes, else-passes}
 
-pub loop-number-init : goal.loop-number-init
+pub loop-index-init : goal.loop-index-init
 unfolding how_many
-loop-number-init g c = record { counted = λ test agrees. refl; small = lit≤ tt }
+loop-index-init g c = record { counted = λ test agrees. refl; small = lit≤ tt }
 
-pub loop-number-preserved : goal.loop-number-preserved
-loop-number-preserved g c =
+pub loop-index-preserved : goal.loop-index-preserved
+loop-index-preserved g c =
     elim c.if-passes.branch [
-      | then-passes w ↦ record { counted = λ test agrees. (let e = agrees _ c.passes.result c.passes.ensures in let i = c.loop-number.invariant.counted test agrees in rw one_more (grind (arith, nat_tests))); small = omega (arith, w.some-is) }
-      | else-passes w ↦ record { counted = λ test agrees. (let e = agrees _ c.passes.result c.passes.ensures in let i = c.loop-number.invariant.counted test agrees in rw one_more (grind (arith, nat_tests))); small = omega (arith, w.some-is) }
+      | then-passes w ↦ record { counted = λ test agrees. (let e = agrees _ c.passes.result c.passes.ensures in let i = c.loop-index.invariant.counted test agrees in rw one_more (grind (arith, nat_tests))); small = omega (arith, w.some-is) }
+      | else-passes w ↦ record { counted = λ test agrees. (let e = agrees _ c.passes.result c.passes.ensures in let i = c.loop-index.invariant.counted test agrees in rw one_more (grind (arith, nat_tests))); small = omega (arith, w.some-is) }
     ]
