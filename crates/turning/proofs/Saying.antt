@@ -2,7 +2,7 @@
 use Rattle.std.proofs.Common.{◌≡◌, ℕ, zero, suc, Bool, true, false, cond, ◌||◌, eqb, List, [], ◌∷◌, ◌++◌, map, get_or, is_some, Some, None, Option, sym, refl, ap, ◌∙◌}
 use Rattle.std.proofs.lemmas.Bool.{cond_both}
 use Rattle.runs.specs.Replicas.{Does, Says}
-use Rattle.runs.proofs.Carrying.{map_append}
+use Rattle.std.proofs.lemmas.List.{map-append}
 use Rattle.agreement.specs.Machine as Machine
 use Rattle.agreement.specs.Machine.{Msg, Mind, accepted, then_do, still, says, to_each, alive_to, word_to, tell, tell_all, tell_done, counts, ask_to, ask_all}
 use Rattle.service.specs.Service.{lines}
@@ -20,13 +20,13 @@ use Rattle.turning.specs.Turns.{mind_of, word_of, done_in, turn_of}
 pub added_turn : (room : ℕ) (m : Memory) (t : Turn) (o ds : List Deed) → o ≡ t.outbox ++ ds → ◌≡◌ {A = Machine.Turn (lines room)} (turn_of room (record { house = t.house; outbox = o }) m) (record { does = (turn_of room t m).does ++ map (done_in room t.house m) ds; mind = mind_of room t.house m })
 added_turn room m t o ds e =
     ◌∙◌ {A = Machine.Turn (lines room)} (λ i. record { does = map (done_in room t.house m) (e i); mind = mind_of room t.house m })
-    (λ i. record { does = map_append (done_in room t.house m) t.outbox ds i; mind = mind_of room t.house m })
+    (λ i. record { does = map-append (done_in room t.house m) t.outbox ds i; mind = mind_of room t.house m })
 
 -- to each of the first n
 pub done_each : (room : ℕ) (f : Deed → Does (Msg (lines room)) (List ℕ)) (g : ℕ → List Deed) (h : ℕ → List (Does (Msg (lines room)) (List ℕ))) → ((j : ℕ) → map f (g j) ≡ h j) → (n : ℕ) → map f (eachOf n g) ≡ to_each {sv = lines room} n h
 unfolding eachOf to_each
 done_each room f g h e zero = refl
-done_each room f g h e (suc n) = map_append f (eachOf n g) (g n) ∙ (λ i. done_each room f g h e n i ++ e n i)
+done_each room f g h e (suc n) = map-append f (eachOf n g) (g n) ∙ (λ i. done_each room f g h e n i ++ e n i)
 
 -- a function of one of two
 pick : {A B : Type 0} (g : A → B) (b : Bool) (x y : A) → g (cond b x y) ≡ cond b (g x) (g y)
