@@ -1,5 +1,6 @@
 -- ABREAST: whatever happens, whatever is held, queued or said counts at most one call more of a replica that is up than it answered (Ahead); and what it holds itself counts no fewer. So the oldest call that waits either is counted by what its replica holds, or is the next to be counted.
 use Rattle.std.proofs.Common.{◌≡◌, ℕ, suc, ◌<◌, ◌≤◌, false, eqb, List, [], ◌∷◌, length, Some, None, Option, sym, refl, ap, ◌∙◌, subst, inl, inr, ⊎_elim, arith, T_not}
+use Rattle.std.proofs.lemmas.Option.{none-some}
 use mathlib.Core.List.Memᴰ
 use mathlib.Core.List.{Memᴰ}
 use Rattle.std.proofs.lemmas.Bool.{cond_both, cases_eq}
@@ -13,7 +14,6 @@ use Rattle.agreement.proofs.Seven.{get_seven}
 use Rattle.agreement.proofs.Scenes.{at_same, at_other, un_there}
 use Rattle.agreement.proofs.History.{drawn, pledge_made}
 use Rattle.agreement.proofs.Inv.{AnsweredTo, unanswered, answered_by, MindInv, WordInv}
-use Rattle.agreement.proofs.Changes.{none_some}
 use Rattle.agreement.proofs.Runs.{Rel, run, calls_rise, from_here}
 use Rattle.agreement.proofs.CameIn.{Kept, forward_counts, serve_counts, hears_counts, on_beat_counts}
 use Rattle.agreement.proofs.Ahead.{NextAt, NextIn, NextSaid, NextOf, hears_fine, quick_or_not_fine, on_beat_fine}
@@ -76,7 +76,7 @@ module _ {sv : Service} where
   none_next s j y m e q = omega arith
 
   first_next : (s : Scene (Mind sv) (Msg sv)) (i all x : ℕ) → NextOf (AtMostNext s) (woke sv i all x)
-  first_next s i all x = (λ j m e q. let z = ap (λ (p : Place). p.no) (get_seven (fresh_place 0) j) in omega arith, λ j c e. absurd (none_some (sym (get_seven None j) ∙ e)))
+  first_next s i all x = (λ j m e q. let z = ap (λ (p : Place). p.no) (get_seven (fresh_place 0) j) in omega arith, λ j c e. absurd (none-some _ (sym (get_seven None j) ∙ e)))
 
   -- who asked was drawn
   asked_drawn : (all : ℕ) (h : List (Event sv)) → Log all h → (t s x k n : ℕ) (o : sv.O) → At h t (asks s x k n o) → 0 < age_in h s x

@@ -1,6 +1,7 @@
 -- ONE CALL AHEAD: whatever is held, queued or said counts or asks for at most one call more of a replica than that replica answered. Here for a turn of one replica; G j y k says that k is at most the next call of the incarnation y at the replica j.
 -- What a turn holds, queues and says comes from what was held, queued and heard, from a join, which counts no call, or from the own oldest call, which is the next one.
 use Rattle.std.proofs.Common.{◌≡◌, ℕ, zero, suc, ◌≤◌, Bool, true, false, cond, not, ◌&&◌, ◌||◌, eqb, ltb, List, [], ◌∷◌, ◌++◌, length, get_or, set, is_some, Some, None, Option, sym, refl, ◌∙◌, subst, ⊎_elim, arith}
+use Rattle.std.proofs.lemmas.Option.{none-some, same_Some}
 use Rattle.std.specs.Option.{option_or}
 use Rattle.std.proofs.lemmas.Bool.{cond_both, and_parts, eqb-true}
 use Rattle.runs.specs.Replicas.{Does, Says, Gives, Whole'}
@@ -9,7 +10,7 @@ use Rattle.agreement.specs.declared.Joining.{Joining}
 use Rattle.agreement.specs.Content.{Service, Proposal, limit, rank, place_at, roster, fresh_place, seven, called, joined}
 use Rattle.agreement.specs.Machine.{Msg, Prepare, Promise, Propose, Alive, Accepted, Join, Forward, is_member, is_candidate, is_leader, Forwarded, Waiting, Mind, accepted, content_of, names, counts, quorum, Turn, still, says, then_do, to_each, word_to, tell, tell_all, tell_done, forward_head, forward, may_answer, reply_to, hands, answer_head, answer, learned, Job, DoCall, DoJoin, call_fits, join_fits, call_job, join_job, after, first_from, own_head, join_at, call_at, first_of, next_job, proposes, copy_in, making, next_of, job_of, with_job, with_joins, with_calls, with_patience, with_heard, does, may_serve, serve, is_settled, settle, elect, is_higher, higher, reported, same_view, takes_up, hold, welcome, entering, anew, is_below, is_own, may_promise, is_mine, on_prepare, on_promise, follows, is_named, implied, may_hold, is_late, hold_or_not, offered, take_or_not, leads, on_propose, holds, is_welcome, is_stale, alive_here, alive_there, on_alive, count_vote, on_accepted, on_join, on_forward, is_full, comes_in, wait_or_not, quick_or_not, may_stand, ask_all, standing, own_view, without_jobs, say_again, has_job, stand_or_not, ticks, on_beat, hears}
 use Rattle.agreement.proofs.Seven.{get_seven}
-use Rattle.agreement.proofs.Changes.{none_some, un_some, set_is, cleared_is}
+use Rattle.agreement.proofs.Changes.{set_is, cleared_is}
 use Rattle.agreement.proofs.Jobs.{set_place, called_places}
 use Rattle.agreement.proofs.CameIn.{Counts, forward_counts, answer_counts, tell_all_counts, ask_all_counts, tell_done_counts, serve_counts, settle_counts, elect_counts, take_or_not_counts, implied_counts, say_again_counts, stand_or_not_counts}
 
@@ -51,7 +52,7 @@ module _ {sv : Service} (G : ℕ → ℕ → ℕ → Type 0) where
   said_each j f a (suc n) = said_append j (to_each {sv = sv} n f) (f n) (said_each j f a n) (a n)
 
   no_calls : NextCalls (seven None)
-  no_calls j a e = absurd (none_some (sym (get_seven None j) ∙ e))
+  no_calls j a e = absurd (none-some _ (sym (get_seven None j) ∙ e))
 
   cleared_calls : (cs : List (Option (Forwarded sv))) (k : ℕ) → NextCalls cs → NextCalls (set cs k None)
   cleared_calls cs k c j a e = c j a (cleared_is cs k j a e)
@@ -156,8 +157,8 @@ module _ {sv : Service} (G : ℕ → ℕ → ℕ → Type 0) where
 
     own_head_next : (m : Mind sv) → Mine m → m.agreement.no ≤ N → (ts : List (Waiting sv)) (a : Forwarded sv) → own_head ts m ≡ Some a → G i a.incarnation a.no
     unfolding own_head
-    own_head_next m me le [] a e = absurd (none_some e)
-    own_head_next m me le (t ∷ ts) a e = rw (← un_some e) (own_next m me le)
+    own_head_next m me le [] a e = absurd (none-some _ e)
+    own_head_next m me le (t ∷ ts) a e = rw (← same_Some _ _ e) (own_next m me le)
 
     next_fine : (m : Mind sv) → Mine m → NextOf m → m.agreement.no ≤ N → SomeNext (accepted m) (next_job m)
     next_fine m me v le =

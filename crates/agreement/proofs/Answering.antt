@@ -1,5 +1,6 @@
 -- ANSWERING: a replica of the group that leads answers its oldest call. If what it holds counts that call already, it answers when that is chosen; else it does the call next, and answers when that is chosen.
 use Rattle.std.proofs.Common.{◌≡◌, ℕ, suc, ◌+◌, ◌*◌, ◌<◌, ◌≤◌, true, false, ◌&&◌, eqb, ltb, List, ◌∷◌, length, get_or, set, Some, None, Option, sym, refl, ap, ◌∙◌, subst, ⊎_elim, arith}
+use Rattle.std.proofs.lemmas.List.{get_or-set_same}
 use mathlib.Core.List.{Memᴰ}
 use Rattle.std.proofs.lemmas.Bool.{cond_both, cond-true, cases_eq, cases_Bool, true≢false, and_from, and_right, eq-eqb, ne_eqb, lt-ltb}
 use Rattle.runs.specs.Replicas.{Scene, Seen, Says, there, turned, Goes}
@@ -12,7 +13,6 @@ use Rattle.agreement.specs.Steady.{Steady}
 use Rattle.agreement.specs.Log.{Event, asks, At, Log}
 use Rattle.agreement.proofs.Scenes.{un_there}
 use Rattle.agreement.proofs.Carried.{forward_head_mind}
-use Rattle.agreement.proofs.Seven.{get_set_here}
 use Rattle.agreement.proofs.History.{made_fits}
 use Rattle.agreement.proofs.Climbs.{called_place, ask_once}
 use Rattle.agreement.proofs.Inv.{Lined, MindInv}
@@ -140,7 +140,7 @@ module _ {sv : Service} (st : Steady sv) (all : ℕ) (two : 2 ≤ all) (small : 
 
     -- what is kept of a write
     kept_now : sv.is_read w.call ≡ false → (k : sv.K) × (get_or (called i w.call (content_of m)).outcomes i None ≡ Some k)
-    kept_now f = (sv.keep w.call m.state, rw f (get_set_here m.outcomes i (Some (sv.keep w.call m.state)) None (omega (arith, fits_here.arrays.1))))
+    kept_now f = (sv.keep w.call m.state, rw f (get_or-set_same m.outcomes i (Some (sv.keep w.call m.state)) None (omega (arith, fits_here.arrays.1))))
 
     pub answers_uncounted : Answers (suc (suc d)) (suc (length ws))
     answers_uncounted =

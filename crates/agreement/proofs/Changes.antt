@@ -1,5 +1,6 @@
 -- The ways in which a mind changes keep the invariant: each adds to the history what the replica did (a promise, a vote, a proposal with its own vote, or nothing), and shows that it was allowed.
 use Rattle.std.proofs.Common.{◌≡◌, ℕ, suc, ◌<◌, ◌≤◌, Bool, true, false, ◌&&◌, eqb, ◌⊎◌, List, ◌∷◌, length, get_or, set, Some, None, Option, sym, refl, ap, ◌∙◌, subst, inl, inr, ⊎_elim, arith}
+use Rattle.std.proofs.lemmas.Option.{none-some, same_Some}
 use Rattle.std.proofs.lemmas.Bool.Decides.{nat_tests}
 use Rattle.std.proofs.lemmas.Bool.{cond_both, and_parts, or_cases, ltb-true, eqb-true, not-true, true≢false, false≢true}
 use Rattle.agreement.specs.declared.View.{View}
@@ -22,20 +23,14 @@ pub vote_is : (o : Option ℕ) (r : ℕ) → is_vote o r ≡ true → o ≡ Some
 vote_is None r e = absurd (false≢true e)
 vote_is (Some y) r e = ap Some (eqb-true y r e)
 
-pub none_some : {A : Type 0} {x : A} → None ≡ Some x → ⊥
-none_some e = absurd (let z : ◌≡◌ {A = ℕ} 0 1 = cc in omega arith)
-
-pub un_some : {A : Type 0} {x y : A} → Some x ≡ Some y → x ≡ y
-un_some e = cc
-
 pub set_is : {A : Type 0} (vs : List (Option A)) (j : ℕ) (y : A) (s : ℕ) (x : A) → get_or (set vs j (Some y)) s None ≡ Some x → (get_or vs s None ≡ Some x) ⊎ ((s ≡ j) × (x ≡ y))
-set_is vs j y s x e = ⊎_elim (λ q. inl (sym q ∙ e)) (λ q. inr (q.0, un_some (sym e ∙ q.1))) (get_set vs j (Some y) None s)
+set_is vs j y s x e = ⊎_elim (λ q. inl (sym q ∙ e)) (λ q. inr (q.0, same_Some _ _ (sym e ∙ q.1))) (get_set vs j (Some y) None s)
 
 pub cleared_is : {A : Type 0} (vs : List (Option A)) (j s : ℕ) (x : A) → get_or (set vs j None) s None ≡ Some x → get_or vs s None ≡ Some x
-cleared_is vs j s x e = ⊎_elim (λ q. sym q ∙ e) (λ q. absurd (none_some (sym q.1 ∙ e))) (get_set vs j None None s)
+cleared_is vs j s x e = ⊎_elim (λ q. sym q ∙ e) (λ q. absurd (none-some _ (sym q.1 ∙ e))) (get_set vs j None None s)
 
 own_is : (a : Agreement) (s x : ℕ) → get_or (own_vote a) s None ≡ Some x → (s ≡ a.me) × (x ≡ a.incarnation)
-own_is a s x e = ⊎_elim (λ q. absurd (none_some (sym (get_seven None s) ∙ q))) (λ q. q) (set_is (seven None) a.me a.incarnation s x e)
+own_is a s x e = ⊎_elim (λ q. absurd (none-some _ (sym (get_seven None s) ∙ q))) (λ q. q) (set_is (seven None) a.me a.incarnation s x e)
 
 pub leader_member : (r : Role) → is_leader r ≡ true → is_member r ≡ true
 leader_member Recovering e = absurd (false≢true e)
@@ -52,7 +47,7 @@ candidate_member Leader e = refl
 module _ {sv : Service} (all i : ℕ) where
   -- nothing is queued
   pub no_jobs : (h : List (Event sv)) (m : Mind sv) → QueueInv all h i m → QueueInv all h i (without_jobs m)
-  no_jobs h m v = record { joins = λ j q e. absurd (none_some (sym (get_seven None j) ∙ e)); calls = λ j a e. absurd (none_some (sym (get_seven None j) ∙ e)); job = v.job; turn = v.turn; waits = v.waits; last = v.last }
+  no_jobs h m v = record { joins = λ j q e. absurd (none-some _ (sym (get_seven None j) ∙ e)); calls = λ j a e. absurd (none-some _ (sym (get_seven None j) ∙ e)); job = v.job; turn = v.turn; waits = v.waits; last = v.last }
 
   pub self_move : (h k : List (Event sv)) (j n x : ℕ) → ((s y : ℕ) → age_in k s y ≡ age_in h s y) → Self all h i j n x → Self all k i j n x
   self_move h k j n x a v = record { me = v.me; all' = v.all'; here = v.here; few = v.few; fits = v.fits; drawn = omega (arith, a i x, v.drawn); latest = λ y. omega (arith, a i x, a i y, v.latest y) }

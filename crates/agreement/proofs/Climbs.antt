@@ -1,6 +1,7 @@
 -- From what is chosen to a trace: the proposals that were passed, from the first of all up to one that is chosen, each made of the one before (Parent); every write on the way is a move of the trace.
 -- Which proposals are known to be chosen is noticed late; so a replica that answers first lets the trace climb to the proposal that it answers from.
 use Rattle.std.proofs.Common.{◌≡◌, ℕ, zero, suc, ◌<◌, ◌≤◌, Bool, true, false, cond, eqb, ◌⊎◌, List, [], ◌∷◌, ◌++◌, length, get_or, set, Some, None, sym, refl, ap, ◌∙◌, subst, inl, inr, ⊎_elim, arith}
+use Rattle.std.proofs.lemmas.List.{get_or-set_other, get_or-set_same}
 use mathlib.Core.List.Memᴰ
 use mathlib.Core.List.{Memᴰ}
 use Rattle.std.proofs.lemmas.Bool.{cond_both, cases_lt, cases_eq, cases_Bool, true≢false, false≢true, or_cases, eqb-true}
@@ -11,7 +12,7 @@ use Rattle.agreement.specs.Log.{Event, asks, At, age_in, world, Ok, Log, goes_on
 use Rattle.agreement.specs.Agree.{IsChosen}
 use Rattle.agreement.proofs.Age.{age_one, ask_top, used_at}
 use Rattle.agreement.proofs.Ranks.{rank_first}
-use Rattle.agreement.proofs.Seven.{get_seven, get_set_here, get_set_other}
+use Rattle.agreement.proofs.Seven.{get_seven}
 use Rattle.agreement.proofs.History.{made_stays, asked_stays, step_stays, quorum_stays, origin, once, facts, made_fits}
 use Rattle.agreement.proofs.Heart.{first_above}
 use Rattle.agreement.proofs.Moves.{chosen_made}
@@ -165,7 +166,7 @@ moved_by sv (by_join j x) l n e = inl e
 
 -- the place of j after a call of j
 pub called_place : {sv : Service} (j : ℕ) (o : sv.O) (c : Content sv) → j < length c.places → place_in (called j o c) j ≡ record { incarnation = (place_in c j).incarnation; no = suc (place_in c j).no }
-called_place {sv} j o c lt = cond_both (sv.is_read o) _ _ (λ (d : Content sv). place_in d j ≡ record { incarnation = (place_in c j).incarnation; no = suc (place_in c j).no }) (λ _. get_set_here c.places j _ _ lt) (λ _. get_set_here c.places j _ _ lt)
+called_place {sv} j o c lt = cond_both (sv.is_read o) _ _ (λ (d : Content sv). place_in d j ≡ record { incarnation = (place_in c j).incarnation; no = suc (place_in c j).no }) (λ _. get_or-set_same c.places j _ _ lt) (λ _. get_or-set_same c.places j _ _ lt)
 
 module _ {sv : Service} (all : ℕ) (h : List (Event sv)) (lg : Log all h) (some : 0 < all) where
   -- a call that was moved is counted where the trace is now
@@ -262,8 +263,8 @@ module _ {sv : Service} (h : List (Event sv)) (i : ℕ) (q : Proposal sv) (l : L
   -- a call of another replica
   other_call : (j : ℕ) (o : sv.O) → (i ≡ j → ⊥) → (place_in (called j o q.content) i ≡ place_at q i) × (get_or (called j o q.content).outcomes i None ≡ get_or q.content.outcomes i None)
   other_call j o n =
-      cond_both (sv.is_read o) _ _ (λ (d : Content sv). (place_in d i ≡ place_at q i) × (get_or d.outcomes i None ≡ get_or q.content.outcomes i None)) (λ _. (get_set_other q.content.places j _ _ i n, refl))
-      (λ _. (get_set_other q.content.places j _ _ i n, get_set_other q.content.outcomes j _ _ i n))
+      cond_both (sv.is_read o) _ _ (λ (d : Content sv). (place_in d i ≡ place_at q i) × (get_or d.outcomes i None ≡ get_or q.content.outcomes i None)) (λ _. (get_or-set_other q.content.places j i _ _ n, refl))
+      (λ _. (get_or-set_other q.content.places j i _ _ n, get_or-set_other q.content.outcomes j i _ _ n))
 
   -- a call of this one
   own_call : (n t : ℕ) (o : sv.O) → i < 7 → At h t (asks i (roster q i) (suc (place_at q i).no) n o) → Memᴰ (Asked i n o) l → Done h (called i o q.content) i (cond (sv.is_read o) [] (Moved i n o ∷ []) ++ l)
@@ -285,15 +286,15 @@ module _ {sv : Service} (h : List (Event sv)) (i : ℕ) (q : Proposal sv) (l : L
       kept : sv.is_read o ≡ false → get_or (called i o q.content).outcomes i None ≡ Some (sv.keep o (state_of sv.clerk l))
       kept =
           cond_both (sv.is_read o) _ _ (λ (d : Content sv). sv.is_read o ≡ false → get_or d.outcomes i None ≡ Some (sv.keep o (state_of sv.clerk l))) (λ e f. absurd (true≢false (sym e ∙ f)))
-          (λ _ _. get_set_here q.content.outcomes i _ None (omega (arith, sev.1)) ∙ ap (λ (z : sv.clerk.State). Some (sv.keep o z)) (sym st))
+          (λ _ _. get_or-set_same q.content.outcomes i _ None (omega (arith, sev.1)) ∙ ap (λ (z : sv.clerk.State). Some (sv.keep o z)) (sym st))
 
   done_by : {d : Content sv} (g : Change q.content d) → i < 7 → CallAsked h q g → AskedIn l g → 0 < (place_in d i).no → Done h d i (ticks_of sv g ++ l)
   done_by copied small a b lt = ih lt
   done_by (by_join j x) small a b lt = go (cases_eq i j)
     where
       go : (i ≡ j) ⊎ (i ≡ j → ⊥) → Done h (joined j x q.content) i l
-      go (inr n) = done_like h q.content (joined j x q.content) i l (get_set_other q.content.places j _ _ i n) (get_set_other q.content.outcomes j _ _ i n) (ih (rw (get_set_other q.content.places j (fresh_place x) (fresh_place 0) i n) at lt))
-      go (inl e) = absurd (let z : get_or (set q.content.places j (fresh_place x)) i (fresh_place 0) ≡ fresh_place x = subst (λ (y : ℕ). get_or (set q.content.places y (fresh_place x)) i (fresh_place 0) ≡ fresh_place x) e (get_set_here q.content.places i (fresh_place x) (fresh_place 0) (omega (arith, sev.0))) in omega (arith, ap (λ (y : Place). y.no) z))
+      go (inr n) = done_like h q.content (joined j x q.content) i l (get_or-set_other q.content.places j i _ _ n) (get_or-set_other q.content.outcomes j i _ _ n) (ih (rw (get_or-set_other q.content.places j i (fresh_place x) (fresh_place 0) n) at lt))
+      go (inl e) = absurd (let z : get_or (set q.content.places j (fresh_place x)) i (fresh_place 0) ≡ fresh_place x = subst (λ (y : ℕ). get_or (set q.content.places y (fresh_place x)) i (fresh_place 0) ≡ fresh_place x) e (get_or-set_same q.content.places i (fresh_place x) (fresh_place 0) (omega (arith, sev.0))) in omega (arith, ap (λ (y : Place). y.no) z))
   done_by (by_call j n o) small (_, t, a) b lt = go (cases_eq i j)
     where
       go : (i ≡ j) ⊎ (i ≡ j → ⊥) → Done h (called j o q.content) i (cond (sv.is_read o) [] (Moved j n o ∷ []) ++ l)

@@ -1,5 +1,6 @@
 -- Counting replicas: more pass a weaker test; the vote of one is no quorum of two or more; who is found in a list is in it.
 use Rattle.std.proofs.Common.{◌≡◌, ℕ, zero, suc, ◌+◌, ◌*◌, ◌<◌, ◌≤◌, Bool, true, false, cond, eqb, ltb, List, [], ◌∷◌, get_or, Some, None, Option, sym, refl, ap, ◌∙◌, ⊎_elim, arith}
+use Rattle.std.proofs.lemmas.List.{get_or-set_other}
 use mathlib.Core.List.Memᴰ
 use mathlib.Core.List.{Memᴰ}
 use Rattle.std.proofs.lemmas.Bool.{true≢false, false≢true, le-ltb, or_cases, or_left, or_right, eqb-true, eq-eqb}
@@ -8,7 +9,7 @@ use Rattle.agreement.specs.declared.Place.{Place}
 use Rattle.agreement.specs.declared.Agreement.{Agreement}
 use Rattle.agreement.specs.Content.{seven, fresh_place}
 use Rattle.agreement.specs.Machine.{is_vote, counts, quorum, own_vote}
-use Rattle.agreement.proofs.Seven.{get_seven, get_set_other}
+use Rattle.agreement.proofs.Seven.{get_seven}
 
 pub how_many_mono : (n : ℕ) (f g : ℕ → Bool) → ((i : ℕ) → i < n → f i ≡ true → g i ≡ true) → how_many n f ≤ how_many n g
 unfolding how_many
@@ -36,7 +37,7 @@ how_many_one (suc n) i f h = step (f n) refl (how_many_one n i f h)
     step false e ih = ih
 
 pub own_vote_else : (a : Agreement) (j : ℕ) → (j ≡ a.me → ⊥) → get_or (own_vote a) j None ≡ None
-own_vote_else a j n = get_set_other (seven None) a.me (Some a.incarnation) None j n ∙ get_seven None j
+own_vote_else a j n = get_or-set_other (seven None) a.me j (Some a.incarnation) None n ∙ get_seven None j
 
 -- one is not most of two or more
 pub one_is_few : (n i : ℕ) (f : ℕ → Bool) → 2 ≤ n → ((j : ℕ) → (j ≡ i → ⊥) → f j ≡ false) → ltb n (2 * how_many n f) ≡ false

@@ -1,5 +1,6 @@
 -- ELECTION: in a group with more than half of all replicas whole, any of these can come to lead, in a view above all views of the group. It hears the promises one by one; when all came, they are a quorum, since each whole replica is named by every proposal at or above its own.
 use Rattle.std.proofs.Common.{◌≡◌, ℕ, zero, suc, ◌*◌, ◌<◌, ◌≤◌, Bool, true, false, ◌&&◌, eqb, ◌⊎◌, List, [], ◌∷◌, ◌++◌, length, get_or, is_some, Some, None, Option, sym, refl, ap, ◌∙◌, inl, inr, ⊎_elim, arith}
+use Rattle.std.proofs.lemmas.List.{get_or-set_other, get_or-set_same, length-set}
 use mathlib.Core.List.Memᴰ
 use mathlib.Core.List.{Memᴰ}
 use Rattle.std.proofs.lemmas.Bool.Decides.{nat_tests}
@@ -12,7 +13,6 @@ use Rattle.agreement.specs.Content.{Service, Proposal, limit, rank, id_of, seven
 use Rattle.agreement.specs.Steady.{Steady}
 use Rattle.agreement.specs.Agree.{held}
 use Rattle.agreement.specs.Machine.{Msg, Promise, Propose, Mind, accepted, is_member, is_candidate, counts, quorum, own_vote, is_higher, higher, reported, making, Turn, still, then_do, tell_all, word_to, answer, copy_in, proposes, with_job, with_patience, with_heard, lead, elect, promised, on_promise, hears, turn, code}
-use Rattle.agreement.proofs.Seven.{length_set, get_set_here, get_set_other}
 use Rattle.agreement.proofs.Scenes.{at_same, at_other, un_there}
 use Rattle.agreement.proofs.Runs.{run, member_is_named}
 use Rattle.agreement.proofs.Clients.{clients}
@@ -137,8 +137,8 @@ module _ {sv : Service} (st : Steady sv) (all : ℕ) (two : 2 ≤ all) (few : al
           joins = r.joins;
           calls = r.calls;
           size = heard_size;
-          seven_votes = length_set d.agreement.votes k _ ∙ r.seven_votes;
-          own = get_set_other d.agreement.votes k _ None i (λ z. ne (sym z)) ∙ r.own;
+          seven_votes = length-set d.agreement.votes k _ ∙ r.seven_votes;
+          own = get_or-set_other d.agreement.votes k i _ None (λ z. ne (sym z)) ∙ r.own;
           none = e;
         }
 
@@ -149,8 +149,8 @@ module _ {sv : Service} (st : Steady sv) (all : ℕ) (two : 2 ≤ all) (few : al
         h = higher_than (accepted w.mind) d
 
         go : (j ≡ k) ⊎ (j ≡ k → ⊥) → (get_or heard.agreement.votes j None ≡ Some q.agreement.incarnation) × (id_of (accepted q) ≤ id_of (accepted heard))
-        go (inl z) = rw (z, un_there q w.mind (sym up ∙ (ap s.house z ∙ w.was))) (get_set_here d.agreement.votes k (Some w.mind.agreement.incarnation) None (omega (arith, r.seven_votes)), h.0)
-        go (inr z) = let o = old j (omega arith) f jn q up in (get_set_other d.agreement.votes k _ None j z ∙ o.0, omega (arith, o.1, h.1))
+        go (inl z) = rw (z, un_there q w.mind (sym up ∙ (ap s.house z ∙ w.was))) (get_or-set_same d.agreement.votes k (Some w.mind.agreement.incarnation) None (omega (arith, r.seven_votes)), h.0)
+        go (inr z) = let o = old j (omega arith) f jn q up in (get_or-set_other d.agreement.votes k j _ None z ∙ o.0, omega (arith, o.1, h.1))
 
     enough : 2 ≤ heard.agreement.all
     enough = omega (arith, two, r.all')
@@ -266,13 +266,13 @@ starts st all two few group b s i lt m r a =
       joins = r.joins;
       calls = r.calls;
       size = r.size;
-      seven_votes = rw r.votes (length_set (seven None) r.mind.agreement.me _);
+      seven_votes = rw r.votes (length-set (seven None) r.mind.agreement.me _);
       own = rw r.votes own_here;
       none = rw r.votes (one_is_few r.mind.agreement.all r.mind.agreement.me (counts (own_vote r.mind.agreement) r.mind.agreement.places) (omega (arith, two, r.alone'.all')) (λ j jn. own_counts r.mind.agreement r.mind.agreement.places j jn));
     }
   where
     own_here : get_or (own_vote r.mind.agreement) i None ≡ Some m.agreement.incarnation
-    own_here = rw (r.alone'.me, r.alone'.incarnation) (get_set_here (seven None) i (Some m.agreement.incarnation) None (omega (arith, lt, few)))
+    own_here = rw (r.alone'.me, r.alone'.incarnation) (get_or-set_same (seven None) i (Some m.agreement.incarnation) None (omega (arith, lt, few)))
 
 -- ANY WHOLE REPLICA OF SUCH A GROUP COMES TO LEAD
 pub elected : {sv : Service} (st : Steady sv) (all : ℕ) → 2 ≤ all → all ≤ 7 → {n : ℕ} {es : List (Seen sv.O sv.R)} {s : Scene (Mind sv) (Msg sv)} → Goes (code sv) all n es s → (group : List ℕ) (b : ℕ) → Low st all group b s → suc b < limit → Enough all group s →

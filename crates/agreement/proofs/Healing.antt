@@ -1,6 +1,7 @@
 -- HEALING: a replica of the group that leads, and at which nothing waits, makes one of the group that recovers whole. If what it holds names that one already, it is enough to have it chosen and to say so;
 -- else that one asks to be written in, the copy is chosen, then the proposal that writes it in, and then it is told so.
 use Rattle.std.proofs.Common.{◌≡◌, ℕ, suc, ◌+◌, ◌-◌, ◌*◌, ◌<◌, ◌≤◌, true, false, cond, not, ◌&&◌, eqb, ◌⊎◌, List, [], ◌∷◌, get_or, set, is_some, Some, None, Option, sym, refl, ap, ◌∙◌, subst, inl, inr, ⊎_elim, arith}
+use Rattle.std.proofs.lemmas.List.{get_or-set_same}
 use mathlib.Core.List.Memᴰ
 use mathlib.Core.List.{Memᴰ}
 use Rattle.std.proofs.lemmas.Bool.{cond_both, cond-true, cond-false, cases_eq, cases_Bool, true≢false, and_left, and_right, and_from, eq-eqb, ne_eqb, eqb-false, le-leb, le-ltb, lt-ltb, not_from_false, not_from_true}
@@ -13,7 +14,6 @@ use Rattle.agreement.specs.declared.Role.TheVariants.{Leader}
 use Rattle.agreement.specs.Content.{Service, Proposal, limit, rank, id_of, fresh_place, roster, joined, FitView, FitProposal}
 use Rattle.agreement.specs.Machine.{Msg, Propose, Alive, Join, Mind, accepted, content_of, is_member, is_leader, names, Turn, still, says, then_do, word_to, alive_to, tell_all, tell_done, forward, answer, learned, making, keeping, welcome, follows, same_view, is_named, may_hold, join_fits, with_joins, job_of, next_of, next_job, proposes, serve, ticks, heard_most, patience_of, may_stand, stand, has_job, say_again, ask_all, stand_or_not, on_beat, is_candidate, turn, code}
 use Rattle.agreement.specs.Steady.{Steady}
-use Rattle.agreement.proofs.Seven.{get_set_here}
 use Rattle.agreement.proofs.Scenes.{at_same, un_there}
 use Rattle.agreement.proofs.History.{made_fits}
 use Rattle.agreement.proofs.Clients.{clients}
@@ -263,7 +263,7 @@ module _ {sv : Service} (st : Steady sv) (all : ℕ) (two : 2 ≤ all) (small : 
 
     -- j keeps that
     named_now : roster writes j ≡ o.agreement.incarnation
-    named_now = ap (λ q. q.incarnation) (get_set_here e.mind.agreement.places j (fresh_place o.agreement.incarnation) (fresh_place 0) (omega (arith, (fits_at i e.mind il e.up).arrays.0)))
+    named_now = ap (λ q. q.incarnation) (get_or-set_same e.mind.agreement.places j (fresh_place o.agreement.incarnation) (fresh_place 0) (omega (arith, (fits_at i e.mind il e.up).arrays.0)))
 
     is_named_now : is_named writes o ≡ true
     is_named_now = eq-eqb _ _ (ap (λ (k : ℕ). roster writes k) me ∙ named_now)

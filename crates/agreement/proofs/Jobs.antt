@@ -1,5 +1,7 @@
 -- A leader's next proposal: the places after a job are as young as before, a job that is taken up was asked for, and so serving keeps the invariant.
 use Rattle.std.proofs.Common.{◌≡◌, ℕ, zero, suc, ◌<◌, ◌≤◌, true, cond, ◌&&◌, eqb, ltb, ◌⊎◌, List, [], ◌∷◌, length, get_or, set, Some, None, Option, sym, refl, ap, ◌∙◌, subst, inl, inr, arith}
+use Rattle.std.proofs.lemmas.Option.{none-some, same_Some}
+use Rattle.std.proofs.lemmas.List.{length-set}
 use Rattle.std.specs.Option.{option_or}
 use Rattle.std.proofs.lemmas.Bool.Decides.{nat_tests}
 use Rattle.std.proofs.lemmas.Bool.{cond_both, and_parts, ltb-true, eqb-true, eqb-false, not-true}
@@ -10,10 +12,10 @@ use Rattle.agreement.specs.Content.{Service, Content, Proposal, limit, rank, vie
 use Rattle.agreement.specs.Log.{Event, age_in, CallAsked, MakesOk, Log}
 use Rattle.agreement.specs.Machine.{is_leader, Forwarded, Waiting, Mind, accepted, content_of, names, Job, DoCall, DoJoin, call_fits, join_fits, call_job, join_job, after, first_from, own_head, join_at, call_at, first_of, next_job, proposes, next_of, job_of, with_calls, with_joins, does, may_serve, serve}
 use Rattle.agreement.proofs.History.{drawn}
-use Rattle.agreement.proofs.Seven.{get_set, length_set}
+use Rattle.agreement.proofs.Seven.{get_set}
 use Rattle.agreement.proofs.Inv.{Member, Leading, JoinOk, AskedAs, Lined, JobsInv, MindInv}
 use Rattle.agreement.proofs.Moves.{Good, Keeps, still_good}
-use Rattle.agreement.proofs.Changes.{leader_member, cleared_is, none_some, un_some, fits_all, making_good}
+use Rattle.agreement.proofs.Changes.{leader_member, cleared_is, fits_all, making_good}
 
 -- THE PLACES AFTER A JOB
 pub set_place : (ps : List Place) (j : ℕ) (q : Place) (P : ℕ → Place → Type 0) → ((s : ℕ) → P s (get_or ps s (fresh_place 0))) → P j q → (s : ℕ) → P s (get_or (set ps j q) s (fresh_place 0))
@@ -28,7 +30,7 @@ pub called_places : {sv : Service} (j : ℕ) (o : sv.O) (c : Content sv) (P : �
 called_places {sv} j o c P a b s = cond_both (sv.is_read o) _ _ (λ (z : Content sv). P s (place_in z s)) (λ _. set_place c.places j _ P a b s) (λ _. set_place c.places j _ P a b s)
 
 called_seven : {sv : Service} (j : ℕ) (o : sv.O) (c : Content sv) → (length c.places ≡ 7) × (length c.outcomes ≡ 7) → (length (called j o c).places ≡ 7) × (length (called j o c).outcomes ≡ 7)
-called_seven {sv} j o c z = cond_both (sv.is_read o) _ _ (λ (d : Content sv). (length d.places ≡ 7) × (length d.outcomes ≡ 7)) (λ _. (length_set c.places j _ ∙ z.0, z.1)) (λ _. (length_set c.places j _ ∙ z.0, length_set c.outcomes j _ ∙ z.1))
+called_seven {sv} j o c z = cond_both (sv.is_read o) _ _ (λ (d : Content sv). (length d.places ≡ 7) × (length d.outcomes ≡ 7)) (λ _. (length-set c.places j _ ∙ z.0, z.1)) (λ _. (length-set c.places j _ ∙ z.0, length-set c.outcomes j _ ∙ z.1))
 
 -- WHAT HOLDS OF A JOB that is taken up: it is of a replica that there is; a call's number fits; a join was asked for in place of who stands there
 abbrev JobOk : {sv : Service} → (all : ℕ) → List (Event sv) → Proposal sv → Job sv → Type 0
@@ -70,8 +72,8 @@ call_job_ok {sv} all h p j (Some a) lt k = cond_both (call_fits j a p) _ _ (Some
 
 own_asked : {sv : Service} (h : List (Event sv)) (i : ℕ) (m : Mind sv) (ts : List (Waiting sv)) → Lined h i m.agreement.incarnation (suc m.agreement.no) ts → (a : Forwarded sv) → own_head ts m ≡ Some a → AskedAs h i a.incarnation a.no a.number a.call
 unfolding own_head
-own_asked h i m [] w a e = absurd (none_some e)
-own_asked h i m (t ∷ ts) (n, b, w) a e = rw (← un_some e) b
+own_asked h i m [] w a e = absurd (none-some _ e)
+own_asked h i m (t ∷ ts) (n, b, w) a e = rw (← same_Some _ _ e) b
 
 module _ {sv : Service} (all : ℕ) (h : List (Event sv)) (lg : Log all h) (i : ℕ) (m : Mind sv) (v : MindInv all h i m) where
   job_ok : SomeOk (JobOk all h (accepted m)) (next_job m)
@@ -136,7 +138,7 @@ module _ {sv : Service} (all i : ℕ) where
       next_good all h lg i (with_joins (set m.agreement.joins j None) (job_of j m)) (v.0, jobs_of all h lg i m v j (set m.agreement.joins j None) m.calls k.0 (λ t a n. v.1.joins t a (cleared_is m.agreement.joins j t a n)) v.1.calls) (joined j q.incarnation (content_of m)) (by_join j q.incarnation) tt
       (set_place m.agreement.places j (fresh_place q.incarnation) (λ t z. age_in h t (roster (accepted m) t) ≤ age_in h t z.incarnation) (λ t. omega arith) (omega (arith, k.1.younger, ap (age_in h j) k.2)))
       (set_place m.agreement.places j (fresh_place q.incarnation) (λ t z. FitPlace z) (fits_all all h lg i m v (accepted m) v.0.made).places (record { incarnation = k.1.fits; no = omega arith }))
-      (let z = (fits_all all h lg i m v (accepted m) v.0.made).arrays in (length_set m.agreement.places j _ ∙ z.0, length_set m.outcomes j _ ∙ z.1))
+      (let z = (fits_all all h lg i m v (accepted m) v.0.made).arrays in (length-set m.agreement.places j _ ∙ z.0, length-set m.outcomes j _ ∙ z.1))
       (set_place m.agreement.places j (fresh_place q.incarnation) (λ t z. roster (accepted m) t ≡ z.incarnation → (place_at (accepted m) t).no ≤ z.no) (λ t _. omega arith) (λ n. absurd (k.3 (sym n ∙ k.2)))) e c s
 
   pub serve_keeps : Keeps {sv = sv} all i serve

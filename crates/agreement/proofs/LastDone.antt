@@ -1,10 +1,11 @@
 -- The last call of a replica that a proposal counts: it came in there as that, and if it is a write, something is kept of it. By going down from the proposal to the one that it was made of.
 use Rattle.std.proofs.Common.{◌≡◌, ℕ, zero, suc, ◌<◌, false, ◌⊎◌, List, length, get_or, set, Some, None, refl, ap, ◌∙◌, subst, inl, inr, arith}
+use Rattle.std.proofs.lemmas.List.{get_or-set_other, get_or-set_same}
 use Rattle.std.proofs.lemmas.Bool.{cond_both, cases_eq}
 use Rattle.agreement.specs.declared.Place.{Place}
 use Rattle.agreement.specs.Content.{Service, Content, Proposal, id_of, root, fresh_place, place_in, place_at, roster, called, joined, Change, copied, by_call, by_join}
 use Rattle.agreement.specs.Log.{Event, asks, At, world, Log, CallAsked}
-use Rattle.agreement.proofs.Seven.{get_seven, get_set_here, get_set_other}
+use Rattle.agreement.proofs.Seven.{get_seven}
 use Rattle.agreement.proofs.History.{made_fits}
 use Rattle.agreement.proofs.Climbs.{called_place, Parent, step_of, parent_made, parent_lower, parent_of}
 
@@ -25,8 +26,8 @@ module _ {sv : Service} (h : List (Event sv)) (i : ℕ) (q : Proposal sv) (sev :
 
   other_call : (j : ℕ) (o : sv.O) → (i ≡ j → ⊥) → (place_in (called j o q.content) i ≡ place_at q i) × (get_or (called j o q.content).outcomes i None ≡ get_or q.content.outcomes i None)
   other_call j o n =
-      cond_both (sv.is_read o) _ _ (λ (d : Content sv). (place_in d i ≡ place_at q i) × (get_or d.outcomes i None ≡ get_or q.content.outcomes i None)) (λ _. (get_set_other q.content.places j _ _ i n, refl))
-      (λ _. (get_set_other q.content.places j _ _ i n, get_set_other q.content.outcomes j _ _ i n))
+      cond_both (sv.is_read o) _ _ (λ (d : Content sv). (place_in d i ≡ place_at q i) × (get_or d.outcomes i None ≡ get_or q.content.outcomes i None)) (λ _. (get_or-set_other q.content.places j i _ _ n, refl))
+      (λ _. (get_or-set_other q.content.places j i _ _ n, get_or-set_other q.content.outcomes j i _ _ n))
 
   own_done : (n t : ℕ) (o : sv.O) → i < 7 → At h t (asks i (roster q i) (suc (place_at q i).no) n o) → LastDone h i (called i o q.content)
   own_done n t o small a =
@@ -35,7 +36,7 @@ module _ {sv : Service} (h : List (Event sv)) (i : ℕ) (q : Proposal sv) (sev :
         call = o;
         time = t;
         asked = rw (called_place i o q.content (omega (arith, sev.0))) a;
-        kept = λ f. (sv.keep o q.content.state, rw f (get_set_here q.content.outcomes i (Some (sv.keep o q.content.state)) None (omega (arith, sev.1))));
+        kept = λ f. (sv.keep o q.content.state, rw f (get_or-set_same q.content.outcomes i (Some (sv.keep o q.content.state)) None (omega (arith, sev.1))));
       }
 
   changed_done : {d : Content sv} (g : Change q.content d) → i < 7 → CallAsked h q g → 0 < (place_in d i).no → LastDone h i d
@@ -43,8 +44,8 @@ module _ {sv : Service} (h : List (Event sv)) (i : ℕ) (q : Proposal sv) (sev :
   changed_done (by_join j x) small a lt = go (cases_eq i j)
     where
       go : (i ≡ j) ⊎ (i ≡ j → ⊥) → LastDone h i (joined j x q.content)
-      go (inr n) = same_done (joined j x q.content) (get_set_other q.content.places j _ _ i n) (get_set_other q.content.outcomes j _ _ i n) lt
-      go (inl e) = absurd (let z : get_or (set q.content.places j (fresh_place x)) i (fresh_place 0) ≡ fresh_place x = subst (λ (y : ℕ). get_or (set q.content.places y (fresh_place x)) i (fresh_place 0) ≡ fresh_place x) e (get_set_here q.content.places i (fresh_place x) (fresh_place 0) (omega (arith, sev.0))) in omega (arith, ap (λ (y : Place). y.no) z))
+      go (inr n) = same_done (joined j x q.content) (get_or-set_other q.content.places j i _ _ n) (get_or-set_other q.content.outcomes j i _ _ n) lt
+      go (inl e) = absurd (let z : get_or (set q.content.places j (fresh_place x)) i (fresh_place 0) ≡ fresh_place x = subst (λ (y : ℕ). get_or (set q.content.places y (fresh_place x)) i (fresh_place 0) ≡ fresh_place x) e (get_or-set_same q.content.places i (fresh_place x) (fresh_place 0) (omega (arith, sev.0))) in omega (arith, ap (λ (y : Place). y.no) z))
   changed_done (by_call j n o) small (_, t, a) lt = go (cases_eq i j)
     where
       go : (i ≡ j) ⊎ (i ≡ j → ⊥) → LastDone h i (called j o q.content)

@@ -1,5 +1,6 @@
 -- LINEARIZABLE: whatever happens, there is a trace of what clients saw, whose writes are those of the chosen line; so clients can't tell the replicas from one clerk.
 use Rattle.std.proofs.Common.{◌≡◌, ℕ, ◌+◌, ◌<◌, ◌≤◌, Bool, true, false, cond, not, T, eqb, ◌⊎◌, List, [], ◌∷◌, ◌++◌, length, get_or, Some, None, Option, sym, refl, ap, ◌∙◌, inl, inr, ⊎_elim, arith, T_not}
+use Rattle.std.proofs.lemmas.Option.{same_Some}
 use mathlib.Core.List.Memᴰ
 use mathlib.Core.List.{Memᴰ}
 use Rattle.std.proofs.lemmas.Bool.{cond_both, cases_lt, cases_Bool, false≢true, or_cases, or_left, or_right, eq-eqb}
@@ -13,7 +14,6 @@ use Rattle.agreement.specs.Waiting.{times_given}
 use Rattle.agreement.specs.Machine.{Msg, Waiting, Mind, Turn, turn, is_full, wait_or_not, quick_or_not, code}
 use Rattle.agreement.proofs.Inv.{Answered, Replied, Well, chosen_now}
 use Rattle.agreement.proofs.Moves.{Ext, same, more, Plain, Good, ext_log, chosen_made}
-use Rattle.agreement.proofs.Changes.{un_some}
 use Rattle.agreement.proofs.Waits.{Wait, Taken, hears_fair, on_beat_fair, on_call_fair}
 use Rattle.agreement.proofs.Clients.{clients, times_waiting, less_waits, off_waits, given_once, called_clients, fresh}
 use Rattle.agreement.proofs.Turns.{on_beat_good, asked_now, ask_ok, starts_good, waits_good}
@@ -92,7 +92,7 @@ module _ {sv : Service} (law : Lawful sv) (all : ℕ) (h : List (Event sv)) (lg 
           from : (b : List (Tick sv.O sv.R)) × Tail (Moved i d.number d.call ∷ b) l × (get_or a.from.content.outcomes i None ≡ Some (sv.keep d.call (state_of sv.clerk b))) → Way sv.clerk sv.is_read tr i n r
           from (b, u, z) =
               wrote a.call b e (tail_trans (rw (same'.0, same'.1) at u) t)
-              (q ∙ (ap (sv.say a.call) (un_some (sym o ∙ z)) ∙ (ap (λ (y : sv.O). sv.say a.call (sv.keep y (state_of sv.clerk b))) same'.1 ∙ law.kept a.call (state_of sv.clerk b) e)))
+              (q ∙ (ap (sv.say a.call) (same_Some _ _ (sym o ∙ z)) ∙ (ap (λ (y : sv.O). sv.say a.call (sv.keep y (state_of sv.clerk b))) same'.1 ∙ law.kept a.call (state_of sv.clerk b) e)))
 
   record Ready' (es : List (Seen sv.O sv.R)) (tr : List (Tick sv.O sv.R)) (n : ℕ) (r : sv.R) : Type 0 where
     pub now : List (Tick sv.O sv.R)

@@ -1,12 +1,13 @@
 -- The next job of a leader: none where nothing is asked for; the one join, or else the own oldest call, where that is all that is asked for.
 use Rattle.std.proofs.Common.{◌≡◌, ℕ, ◌<◌, true, false, cond, eqb, List, [], ◌∷◌, get_or, set, is_some, Some, None, Option, sym, refl, ap, ◌∙◌, arith}
+use Rattle.std.proofs.lemmas.List.{get_or-set_other, get_or-set_same}
 use Rattle.std.specs.Option.{option_or}
 use Rattle.std.proofs.lemmas.Bool.Decides.{nat_tests}
 use Rattle.std.proofs.lemmas.Bool.{cond_both, cond-true, cond-false, eq-eqb, ne_eqb, and_right}
 use Rattle.agreement.specs.declared.Joining.{Joining}
 use Rattle.agreement.specs.Content.{Service, seven, called, joined}
 use Rattle.agreement.specs.Machine.{Forwarded, Waiting, Mind, accepted, content_of, Turn, still, Job, DoCall, DoJoin, call_fits, join_fits, call_job, join_job, own_call, own_head, join_at, call_at, first_of, next_job, proposes, next_of, job_of, with_joins, with_calls, does, may_serve, serve, has_job}
-use Rattle.agreement.proofs.Seven.{get_seven, get_set_here, get_set_other}
+use Rattle.agreement.proofs.Seven.{get_seven}
 use Rattle.agreement.proofs.Settling.{first_none, first_only, far_from}
 
 far_below : (n i j : ℕ) → i < n → j < n → far_from n i j < n
@@ -39,10 +40,10 @@ module _ {sv : Service} (m : Mind sv) where
   -- one join is asked for
   module _ (j : ℕ) (q : Joining) (jl : j < m.agreement.all) (jl' : j < 7) (tl : m.agreement.turn < m.agreement.all) (js : m.agreement.joins ≡ set (seven None) j (Some q)) (fits : join_fits j q (accepted m) ≡ true) where
     here' : join_at m j ≡ Some (DoJoin j q)
-    here' = ap (λ (o : Option Joining). join_job (accepted m) j o) (ap (λ (l : List (Option Joining)). get_or l j None) js ∙ get_set_here (seven None) j (Some q) None (omega arith)) ∙ cond-true (join_fits j q (accepted m)) (Some (DoJoin j q)) None fits
+    here' = ap (λ (o : Option Joining). join_job (accepted m) j o) (ap (λ (l : List (Option Joining)). get_or l j None) js ∙ get_or-set_same (seven None) j (Some q) None (omega arith)) ∙ cond-true (join_fits j q (accepted m)) (Some (DoJoin j q)) None fits
 
     else' : (k : ℕ) → (k ≡ j → ⊥) → join_at m k ≡ None
-    else' k n = ap (λ (o : Option Joining). join_job (accepted m) k o) (ap (λ (l : List (Option Joining)). get_or l k None) js ∙ (get_set_other (seven None) j (Some q) None k n ∙ get_seven None k))
+    else' k n = ap (λ (o : Option Joining). join_job (accepted m) k o) (ap (λ (l : List (Option Joining)). get_or l k None) js ∙ (get_or-set_other (seven None) j k (Some q) None n ∙ get_seven None k))
 
     join_next : next_job m ≡ Some (DoJoin j q)
     join_next = ap (λ (o : Option (Job sv)). option_or o (first_of (call_at m) m)) (first_only (join_at m) (DoJoin j q) m.agreement.all j jl here' else' m.agreement.all m.agreement.turn tl (far_below m.agreement.all j m.agreement.turn jl tl))

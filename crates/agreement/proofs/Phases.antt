@@ -1,5 +1,6 @@
 -- From stage to stage of a phase: who was elected leads; a leader that settles and proposes anew leads on; a turn of one that recovers leaves the leader leading; and what is bounded at the end.
 use Rattle.std.proofs.Common.{◌≡◌, ℕ, suc, ◌*◌, ◌<◌, ◌≤◌, true, false, not, ◌&&◌, List, get_or, Some, None, sym, refl, ap, ◌∙◌, subst, ⊎_elim, arith}
+use Rattle.std.proofs.lemmas.List.{get_or-set_same, length-set}
 use mathlib.Core.List.{Memᴰ}
 use Rattle.std.proofs.lemmas.Bool.{cases_eq, true≢false}
 use Rattle.runs.specs.Replicas.{Scene, Seen, Says, there, turned, whole, Goes}
@@ -9,7 +10,6 @@ use Rattle.agreement.specs.Content.{Service, Proposal, id_of, seven}
 use Rattle.agreement.specs.Log.{Event}
 use Rattle.agreement.specs.Machine.{Msg, Propose, Mind, accepted, own_vote, making, Turn, code}
 use Rattle.agreement.specs.Steady.{Steady}
-use Rattle.agreement.proofs.Seven.{get_set_here, length_set}
 use Rattle.agreement.proofs.Scenes.{at_same, un_there}
 use Rattle.agreement.proofs.Inv.{MindInv}
 use Rattle.agreement.proofs.Stages.{Low, Follows, Elected}
@@ -29,7 +29,7 @@ follows_up : {sv : Service} {st : Steady sv} {d : ℕ} {v : View} {p q : Proposa
 follows_up le f = record { mind = f.mind; up = f.up; role = f.role; promised = f.promised; below = omega (arith, f.below); held = omega (arith, f.held); size = omega (arith, f.size) }
 
 own_vote_here : (a : Agreement) (i : ℕ) → a.me ≡ i → i < 7 → get_or (own_vote a) i None ≡ Some a.incarnation
-own_vote_here a i e lt = subst (λ (k : ℕ). get_or (own_vote a) k None ≡ Some a.incarnation) e (get_set_here (seven None) a.me (Some a.incarnation) None (omega arith))
+own_vote_here a i e lt = subst (λ (k : ℕ). get_or (own_vote a) k None ≡ Some a.incarnation) e (get_or-set_same (seven None) a.me (Some a.incarnation) None (omega arith))
 
 module _ {sv : Service} (st : Steady sv) (all : ℕ) (two : 2 ≤ all) (small : all ≤ 7) (group : List ℕ) {n : ℕ} {es : List (Seen sv.O sv.R)} (s : Scene (Mind sv) (Msg sv)) (go : Goes (code sv) all n es s) (i : ℕ) (il : i < all) (iw : s.frail i ≡ false) where
   -- the invariant of a replica in a scene that the group comes to
@@ -46,7 +46,7 @@ module _ {sv : Service} (st : Steady sv) (all : ℕ) (two : 2 ≤ all) (small : 
         view = e.view ∙ sym e.promised;
         chosen = e.chosen;
         short = rw e.votes (one_is_no_quorum e.mind.agreement.all e.mind.agreement.places e.mind.agreement (omega (arith, self.1.0.who.all')));
-        seats = rw e.votes (length_set (seven None) e.mind.agreement.me (Some e.mind.agreement.incarnation));
+        seats = rw e.votes (length-set (seven None) e.mind.agreement.me (Some e.mind.agreement.incarnation));
         own = rw e.votes (own_vote_here e.mind.agreement i self.1.0.who.me (omega arith));
         number = omega (arith, ap (λ (v : View). v.number) e.promised);
         size = e.size;
@@ -69,7 +69,7 @@ module _ {sv : Service} (st : Steady sv) (all : ℕ) (two : 2 ≤ all) (small : 
         view = view ∙ sym pr;
         chosen = one_is_no_quorum o.agreement.all p.content.places o.agreement (omega arith);
         short = one_is_no_quorum o.agreement.all p.content.places o.agreement (omega arith);
-        seats = length_set (seven None) o.agreement.me (Some o.agreement.incarnation);
+        seats = length-set (seven None) o.agreement.me (Some o.agreement.incarnation);
         own = own_vote_here o.agreement i me (omega arith);
         number = omega (arith, ap (λ (v : View). v.number) pr);
         size = size;

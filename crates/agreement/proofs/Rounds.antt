@@ -1,6 +1,7 @@
 -- A ROUND of votes: a replica that leads, and has offered what it holds to all others, gets the vote of each whole replica of the group, one after the other, until it has a quorum; at that vote it settles.
 -- The quorum is certain: whoever is whole is named by what the leader holds, so that its vote counts, and the whole ones of the group are more than half of all.
 use Rattle.std.proofs.Common.{◌≡◌, ℕ, zero, suc, ◌*◌, ◌<◌, ◌≤◌, Bool, true, false, not, ◌&&◌, ◌⊎◌, List, length, get_or, set, Some, None, Option, sym, refl, ap, ◌∙◌, subst, inl, inr, ⊎_elim, arith}
+use Rattle.std.proofs.lemmas.List.{get_or-set_other, get_or-set_same, length-set}
 use mathlib.Core.List.{Memᴰ}
 use Rattle.std.proofs.lemmas.Bool.{cond-true, cond-false, cases_eq, cases_Bool, true≢false, and_parts, and_from, and_right, eq-eqb, not-true, lt-ltb}
 use Rattle.runs.specs.Replicas.{Letter, Scene, Seen, Said, there, turned, how_many, is_in, Goes}
@@ -12,7 +13,6 @@ use Rattle.agreement.specs.Content.{Service, Proposal, rank, id_of, roster}
 use Rattle.agreement.specs.Agree.{held}
 use Rattle.agreement.specs.Machine.{Msg, Propose, Accepted, Mind, accepted, is_member, counts, quorum, Turn, still, then_do, become, with_heard, learned, tell_done, answer, serve, is_leader, is_settled, settle, leads, holds, names, heard_from, counted, count_vote, on_accepted, hears, turn, code}
 use Rattle.agreement.specs.Steady.{Steady}
-use Rattle.agreement.proofs.Seven.{get_set_here, get_set_other, length_set}
 use Rattle.agreement.proofs.Runs.{member_is_named}
 use Rattle.agreement.proofs.Stages.{Follows}
 use Rattle.agreement.proofs.Among.{among_goes_here}
@@ -182,8 +182,8 @@ module _ {sv : Service} (st : Steady sv) (all : ℕ) (small : all ≤ 7) (group 
           view = a.view;
           chosen = a.chosen;
           short = q;
-          seats = length_set vs k _ ∙ a.seats;
-          own = get_set_other vs k _ None i (λ e. kc (sym e)) ∙ a.own;
+          seats = length-set vs k _ ∙ a.seats;
+          own = get_or-set_other vs k i _ None (λ e. kc (sym e)) ∙ a.own;
           number = a.number;
           size = a.size;
           told = λ j jl jc. beside_after.since _ (a.told j jl jc);
@@ -202,11 +202,11 @@ module _ {sv : Service} (st : Steady sv) (all : ℕ) (small : all ≤ 7) (group 
     asked k o kl kg kw kc = go' (cases_Bool (quorum m.agreement.all m.agreement.places (now d o.scene m o.votes o.heard o.leads k kl kg kw kc)))
       where
         silent' : (j : ℕ) → s.frail j ≡ true → get_or (now d o.scene m o.votes o.heard o.leads k kl kg kw kc) j None ≡ get_or m.agreement.votes j None
-        silent' j e = get_set_other o.votes k _ None j (λ q. true≢false (sym e ∙ (ap s.frail q ∙ kw))) ∙ o.silent j e
+        silent' j e = get_or-set_other o.votes k j _ None (λ q. true≢false (sym e ∙ (ap s.frail q ∙ kw))) ∙ o.silent j e
 
         counted'' : (j : ℕ) → j < suc k → is_voter st all group s i j ≡ true → (j ≡ k) ⊎ (j ≡ k → ⊥) → counts (now d o.scene m o.votes o.heard o.leads k kl kg kw kc) m.agreement.places j ≡ true
-        counted'' j lt e (inl q) = rw (q, get_set_here o.votes k (Some (fk d o.scene m o.votes o.heard o.leads k kl kg kw kc).mind.agreement.incarnation) None (omega (arith, o.leads.seats))) (eq-eqb _ _ (sym (named d o.scene m o.votes o.heard o.leads k kl kg kw kc)))
-        counted'' j lt e (inr q) = rw (get_set_other o.votes k (Some (fk d o.scene m o.votes o.heard o.leads k kl kg kw kc).mind.agreement.incarnation) None j q) (o.counted' j (omega arith) e)
+        counted'' j lt e (inl q) = rw (q, get_or-set_same o.votes k (Some (fk d o.scene m o.votes o.heard o.leads k kl kg kw kc).mind.agreement.incarnation) None (omega (arith, o.leads.seats))) (eq-eqb _ _ (sym (named d o.scene m o.votes o.heard o.leads k kl kg kw kc)))
+        counted'' j lt e (inr q) = rw (get_or-set_other o.votes k j (Some (fk d o.scene m o.votes o.heard o.leads k kl kg kw kc).mind.agreement.incarnation) None q) (o.counted' j (omega arith) e)
 
         go' : (quorum m.agreement.all m.agreement.places (now d o.scene m o.votes o.heard o.leads k kl kg kw kc) ≡ true) ⊎ (quorum m.agreement.all m.agreement.places (now d o.scene m o.votes o.heard o.leads k kl kg kw kc) ≡ false) → Voting st all group s i d t m (suc k) ⊎ Settled st all group s i d t m
         go' (inl q) =

@@ -1,5 +1,6 @@
 -- Whatever happens to the replicas, there is a history behind it, over which the invariant holds of each replica and each letter (Rel): by induction over runs. Then what follows: one line, members are named, what is said fits.
 use Rattle.std.proofs.Common.{◌≡◌, ℕ, ◌<◌, ◌≤◌, Bool, true, false, cond, not, T, eqb, ◌⊎◌, List, [], ◌∷◌, ◌++◌, length, Some, None, Option, sym, refl, ap, ◌∙◌, subst, inl, inr, ⊎_elim, arith, T_not}
+use Rattle.std.proofs.lemmas.Option.{none-some}
 use mathlib.Core.List.Memᴰ
 use mathlib.Core.List.{Memᴰ}
 use Rattle.std.proofs.lemmas.Bool.Decides.{nat_tests}
@@ -22,7 +23,6 @@ use Rattle.agreement.proofs.History.{drawn, zero_drawn, once, facts, pledge_made
 use Rattle.agreement.proofs.Heart.{agreement, grows}
 use Rattle.agreement.proofs.Inv.{Member, Self, unanswered, Holds, JobsInv, MindInv, WordInv, LetterInv, Well, word_stays, mind_stays}
 use Rattle.agreement.proofs.Moves.{Ext, same, more, Good, ext_log, ext_age, ext_used, ext_word, chosen_made}
-use Rattle.agreement.proofs.Changes.{none_some}
 use Rattle.agreement.proofs.Turns.{hears_good, on_beat_good, asked_now, ask_ok, starts_good, waits_good}
 
 -- log: each thing of the history had what it needed. replicas, letters: the invariant. drawn: what came up in the history was drawn in the scene, so that a fresh incarnation is fresh. used: likewise for the clients' numbers.
@@ -149,7 +149,7 @@ module _ {sv : Service} (all : ℕ) (small : all ≤ 7) where
             inside = λ _. first_sees i;
             outside = λ e. absurd (true≢false e);
             stands = λ e. absurd (false≢true e);
-            leads = λ _. record { leader = omega (arith, rank_first); inc = omega (arith, rank_first); now = refl; last = omega arith; acked = λ s y t. absurd (none_some (sym (get_seven None s) ∙ t)) };
+            leads = λ _. record { leader = omega (arith, rank_first); inc = omega (arith, rank_first); now = refl; last = omega arith; acked = λ s y t. absurd (none-some _ (sym (get_seven None s) ∙ t)) };
             answered = unanswered refl;
           }
 
@@ -158,7 +158,7 @@ module _ {sv : Service} (all : ℕ) (small : all ≤ 7) where
 
   -- nothing is to be done
   idle : (h : List (Event sv)) (i x : ℕ) → i < all → top (ask_of i x) h ≡ 0 → JobsInv {sv = sv} all h i x (seven None) None 0 0 [] (seven None)
-  idle h i x lt z = record { joins = λ j q e. absurd (none_some (sym (get_seven None j) ∙ e)); calls = λ j a e. absurd (none_some (sym (get_seven None j) ∙ e)); job = λ j e. absurd (none_some e); turn = omega arith; waits = tt; last = omega arith }
+  idle h i x lt z = record { joins = λ j q e. absurd (none-some _ (sym (get_seven None j) ∙ e)); calls = λ j a e. absurd (none-some _ (sym (get_seven None j) ∙ e)); job = λ j e. absurd (none-some _ e); turn = omega arith; waits = tt; last = omega arith }
 
   pub first_rel : Rel {sv = sv} all [] [] (record { house = λ i. there ((code sv).wakes i all 0); frail = λ i. false; letters = []; waits = []; drawn = 0 ∷ [] })
   unfolding is_in

@@ -1,5 +1,5 @@
 -- Lists as arrays: what is read after a place was set.
-use Rattle.std.proofs.Common.{◌≡◌, ℕ, zero, suc, ◌<◌, ◌⊎◌, List, [], ◌∷◌, length, get_or, set, refl, ap, inl, inr, ⊎_elim, arith}
+use Rattle.std.proofs.Common.{◌≡◌, ℕ, zero, suc, ◌⊎◌, List, [], ◌∷◌, get_or, set, refl, ap, inl, inr, ⊎_elim}
 use Rattle.agreement.specs.Content.{seven}
 
 pub get_seven : {A : Type 0} (x : A) (s : ℕ) → get_or (seven x) s x ≡ x
@@ -19,17 +19,3 @@ get_set (x ∷ xs) zero y d zero = inr (refl, refl)
 get_set (x ∷ xs) zero y d (suc s) = inl refl
 get_set (x ∷ xs) (suc j) y d zero = inl refl
 get_set (x ∷ xs) (suc j) y d (suc s) = ⊎_elim (λ e. inl e) (λ e. inr (ap suc e.0, e.1)) (get_set xs j y d s)
-
-pub length_set : {A : Type 0} (xs : List A) (j : ℕ) (y : A) → length (set xs j y) ≡ length xs
-length_set [] j y = refl
-length_set (x ∷ xs) zero y = refl
-length_set (x ∷ xs) (suc j) y = ap suc (length_set xs j y)
-
--- what was set is read, where there is such a place
-pub get_set_here : {A : Type 0} (xs : List A) (j : ℕ) (y d : A) → j < length xs → get_or (set xs j y) j d ≡ y
-get_set_here [] j y d lt = absurd (omega arith)
-get_set_here (x ∷ xs) zero y d lt = refl
-get_set_here (x ∷ xs) (suc j) y d lt = get_set_here xs j y d (omega arith)
-
-pub get_set_other : {A : Type 0} (xs : List A) (j : ℕ) (y d : A) (s : ℕ) → (s ≡ j → ⊥) → get_or (set xs j y) s d ≡ get_or xs s d
-get_set_other xs j y d s n = ⊎_elim (λ e. e) (λ e. absurd (n e.0)) (get_set xs j y d s)

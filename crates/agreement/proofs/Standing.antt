@@ -1,6 +1,7 @@
 -- STANDING: a whole replica that beats comes to stand for a view above b, with nobody else doing anything. Patience falls with each beat; a leader renews it once at most, since then nobody is heard; and each stand raises the number of its view by one.
 -- On the way a leader takes one job at most: what it makes is not chosen before others vote for it.
 use Rattle.std.proofs.Common.{◌≡◌, ℕ, zero, suc, ◌+◌, ◌-◌, ◌*◌, ◌<◌, ◌≤◌, Bool, true, false, ◌&&◌, ◌||◌, eqb, ltb, ◌⊎◌, List, [], ◌∷◌, get_or, set, Some, None, Option, sym, refl, ap, ◌∙◌, subst, inl, inr, ⊎_elim, arith}
+use Rattle.std.proofs.lemmas.List.{get_or-set_other}
 use mathlib.Core.List.{Memᴰ}
 use Rattle.std.proofs.lemmas.Bool.Decides.{nat_tests}
 use Rattle.std.proofs.lemmas.Bool.{cond_both, cond-true, cond-false, and_parts, and_from, and_left, and_right, or_from, ne_eqb, true≢false, false≢true}
@@ -14,7 +15,7 @@ use Rattle.agreement.specs.declared.Place.{Place}
 use Rattle.agreement.specs.Content.{Service, Content, Proposal, limit, seven, fresh_place, called, joined}
 use Rattle.agreement.specs.Steady.{Steady}
 use Rattle.agreement.specs.Machine.{Msg, Prepare, Mind, content_of, accepted, is_member, is_candidate, is_leader, is_vote, counts, own_vote, alone, making, Waiting, Turn, still, then_do, tell_all, may_answer, answer_head, proposes, Job, DoCall, DoJoin, next_job, next_of, job_of, with_calls, with_joins, does, may_serve, serve, forward, ask_to, ask_all, say_again, has_job, heard_most, ticks, may_stand, own_view, standing, anew, without_jobs, stand, stand_or_not, on_beat, turn, code}
-use Rattle.agreement.proofs.Seven.{get_seven, get_set_other}
+use Rattle.agreement.proofs.Seven.{get_seven}
 use Rattle.agreement.proofs.Scenes.{at_same, at_other}
 use Rattle.agreement.proofs.Carried.{forward_head_mind}
 use Rattle.agreement.proofs.Stages.{view_above}
@@ -29,7 +30,7 @@ leader_is Leader e = refl
 
 -- with only its own vote
 pub own_only : (a : Agreement) (j : ℕ) → (j ≡ a.me → ⊥) → get_or (own_vote a) j None ≡ None
-own_only a j ne = get_set_other (seven None) a.me (Some a.incarnation) None j ne ∙ get_seven None j
+own_only a j ne = get_or-set_other (seven None) a.me j (Some a.incarnation) None ne ∙ get_seven None j
 
 pub own_counts : (a : Agreement) (ps : List Place) (j : ℕ) → (j ≡ a.me → ⊥) → counts (own_vote a) ps j ≡ false
 own_counts a ps j ne = ap (λ (o : Option ℕ). is_vote o (get_or ps j (fresh_place 0)).incarnation) (own_only a j ne)

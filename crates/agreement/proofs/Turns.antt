@@ -1,5 +1,6 @@
 -- Every turn of a replica keeps the invariant, whatever comes to it: a handler for each message, a call, a tick.
 use Rattle.std.proofs.Common.{◌≡◌, ℕ, suc, ◌+◌, ◌<◌, ◌≤◌, Bool, true, false, cond, not, ◌&&◌, eqb, ltb, ◌⊎◌, List, [], ◌∷◌, ◌++◌, length, get_or, set, Some, None, sym, refl, ap, ◌∙◌, subst, inl, inr, arith}
+use Rattle.std.proofs.lemmas.List.{length-append}
 use Rattle.std.proofs.lemmas.Bool.Decides.{nat_tests}
 use Rattle.std.proofs.lemmas.Bool.{cond_both, and_parts, ltb-true, ltb-false, leb-true, eqb-true, true≢false, false≢true}
 use Rattle.agreement.specs.declared.View.{View}
@@ -14,10 +15,6 @@ use Rattle.agreement.proofs.Inv.{Candid, Leading, Member, VoterInv, JoinOk, Aske
 use Rattle.agreement.proofs.Moves.{Ext, same, more, Good, Keeps, ext_word, ext_queue, then_good, then_keeps, still_good, still_keeps, says_good, catch_up_good, others, tell_keeps, tell_done_keeps, tell_all_keeps, ask_all_keeps, forward_keeps, answer_keeps}
 use Rattle.agreement.proofs.Changes.{vote_is, set_is, leader_member, candidate_member, no_jobs, chosen_is, made_view, fits_all, learned_inv, promised_ok, promised_to, promising_inv, own_fits, own_le, own_lt, standing_inv, making_good, reported_inv, member_votes, member_holds, welcome_votes, welcome_holds, keeping_inv, entering_inv}
 use Rattle.agreement.proofs.Jobs.{serve_keeps}
-
-one_longer : {A : Type 0} (xs : List A) (y : A) → length (xs ++ y ∷ []) ≡ suc (length xs)
-one_longer [] y = refl
-one_longer (x ∷ xs) y = ap suc (one_longer xs y)
 
 module _ {sv : Service} (all : ℕ) (h : List (Event sv)) (lg : Log all h) (i : ℕ) (m : Mind sv) (v : MindInv all h i m) where
   learn_good : Chosen (world all h) (length h) (accepted m) → Good all h i (learn m)
@@ -269,7 +266,7 @@ module _ {sv : Service} (all i : ℕ) where
         job = v.1.job;
         turn = v.1.turn;
         waits = lined_more (suc m.agreement.no) m.waiting v.1.waits (omega arith);
-        last = let l = one_longer m.waiting t in let b = v.1.last in grind (arith, nat_tests);
+        last = let l = length-append m.waiting (t ∷ []) in let b = v.1.last in grind (arith, nat_tests);
       },
     )
 

@@ -1,5 +1,6 @@
 -- In every turn: only calls that wait are answered, the oldest first, each once, by what the clerk may say; a member stays one, and one that becomes a member says that it is whole.
 use Rattle.std.proofs.Common.{◌≡◌, ℕ, zero, suc, Bool, true, false, cond, not, ◌&&◌, ◌||◌, eqb, ltb, ◌⊎◌, List, [], ◌∷◌, ◌++◌, length, get_or, set, Some, None, Option, sym, refl, ap, ◌∙◌, subst, inl, inr, ⊎_elim, arith}
+use Rattle.std.proofs.lemmas.List.{nil_from_length}
 use mathlib.Core.List.Memᴰ
 use mathlib.Core.List.{Memᴰ}
 use Rattle.std.proofs.lemmas.Bool.{cond_both, and_parts, and_from, eq-eqb, eqb-true, cases_Bool, true≢false, false≢true}
@@ -373,10 +374,6 @@ match_last i (u ∷ ts) t ws new w =
     go n (inl e) = kept_in i u.number i n (λ _ q. new (subst (λ (z : ℕ). Memᴰ (Wait i z) ws) (sym q ∙ ap (λ (a : Waits). a.number) e) w.0)) (Wait i t.number ∷ ws) (Memᴰ.head e)
     go n (inr d) = kept_in i u.number i n (λ _ q. gone_from i u.number n q ws d) (Wait i t.number ∷ ws) (Memᴰ.tail (without_in i u.number _ ws d))
 
-empty_is : {A : Type 0} (ts : List A) → length ts ≡ 0 → ts ≡ []
-empty_is [] e = refl
-empty_is (t ∷ ts) e = absurd (omega arith)
-
 -- a call comes in: it is answered at once, by anything that may be said; or handed back; or it waits
 module _ {sv : Service} (i : ℕ) where
   -- it is answered at once
@@ -426,7 +423,7 @@ module _ (sv : Service) (i : ℕ) (P : sv.R → Type 0) (pr : (o : sv.O) (s : sv
   wait_or_not_gives t m =
       cond_both (is_full m.waiting) _ _ (GivesOnly t.number (is_full m.waiting)) (λ e. one_gives t.number _ (is_full m.waiting) m (inl e))
       (λ _. cond_both (eqb (length m.waiting) 0) _ _ (GivesOnly t.number (is_full m.waiting))
-      (λ e q r d. let k = taken_in i P _ _ (starts_fair sv i P pr ps t (Wait i t.number ∷ []) m (rw (empty_is m.waiting (eqb-true _ _ e)) (Memᴰ.head refl, tt))).gives q r d in (only i t.number q k.0, inr k.1)) (λ _ q r d. absurd (Memᴰ.not-nil d)))
+      (λ e q r d. let k = taken_in i P _ _ (starts_fair sv i P pr ps t (Wait i t.number ∷ []) m (rw (nil_from_length m.waiting (eqb-true _ _ e)) (Memᴰ.head refl, tt))).gives q r d in (only i t.number q k.0, inr k.1)) (λ _ q r d. absurd (Memᴰ.not-nil d)))
 
   quick_or_not_gives : (o : Option sv.R) → May P o → (t : Waiting sv) (m : Mind sv) → GivesOnly t.number (is_full m.waiting) (quick_or_not o t m)
   unfolding quick_or_not

@@ -13,7 +13,7 @@ ghost use Rattle.agreement.specs.Steady.{Steady};
 ghost use Rattle.agreement.specs.Sums.{sums};
 
 // Whose turn it is to lead: views are ordered by number, then leader, then the leader's incarnation.
-#[derive(Clone, Copy)]
+#[derive(Clone, Copy, PartialEq, Eq, PartialOrd, Ord)]
 pub struct View {
     pub number: u64,
     pub leader: u8,
@@ -21,14 +21,14 @@ pub struct View {
 }
 
 // A proposal's place in the order of all: its view, and its number within the view.
-#[derive(Clone, Copy)]
+#[derive(Clone, Copy, PartialEq, Eq, PartialOrd, Ord)]
 pub struct ProposalId {
     pub view: View,
     pub seq: u64,
 }
 
 // Recovering: it came up again and has not yet been told all; the others are members, who vote.
-#[derive(Clone, Copy)]
+#[derive(Clone, Copy, PartialEq, Eq)]
 pub enum Role {
     Recovering,
     Follower,
@@ -37,14 +37,14 @@ pub enum Role {
 }
 
 // What is agreed on about one replica: the incarnation that votes for it, and the number of its last call that was done.
-#[derive(Clone, Copy)]
+#[derive(Clone, Copy, PartialEq, Eq)]
 pub struct Place {
     pub incarnation: u64,
     pub no: u64,
 }
 
 // A replica that came up again wants to stand in a place instead of the incarnation that stands there.
-#[derive(Clone, Copy)]
+#[derive(Clone, Copy, PartialEq, Eq)]
 pub struct Joining {
     pub incarnation: u64,
     pub replaces: u64,
@@ -54,6 +54,7 @@ pub struct Joining {
 // chosen: it knows that accepted is. votes: the promises that a candidate got, or who told a leader that it holds accepted, each with its incarnation. places: those of accepted.
 // no: how many calls of this incarnation were answered. patience: ticks until it stands. heard: who answered a leader since its patience was renewed.
 // job: whose job accepted does. turn: whom the leader serves next. joins: who wants to be written in.
+// kept: the machine of specs/ changes one of the arrays at a time, and each is a list of its own there.
 #[derive(Clone, Copy)]
 pub struct Agreement {
     pub me: u8,

@@ -1,11 +1,15 @@
 // What a turn says, as a short list of headers by value. A proposal that is said is the one that is held when the turn ends, and a call lies in a slot of memory: so headers carry neither.
 #![tactic(auto)]
 
-ghost use Rattle.std.specs.Prelude.{◌≡◌, ◌+◌, ◌<◌, ◌≤◌, List, [], ◌∷◌, ◌++◌};
-ghost use Rattle.outbox.specs.Deeds.{list_of, aliveBy, word_by, tellBy, tellAllBy, askBy, askAllBy, tellDoneBy, Below};
+ghost use Rattle.std.specs.Prelude.{◌≡◌, ℕ, ◌+◌, ◌<◌, ◌≤◌, List, [], ◌∷◌, ◌++◌, length};
+ghost use Rattle.voting.specs.declared.replica.Replica.{Replica};
+ghost use Rattle.outbox.specs.declared.Deed.{Deed};
+ghost use Rattle.outbox.specs.Deeds.{said, eachOf, aliveBy, word_by, tellBy, tellAllBy, askBy, askAllBy, tellDoneBy, Below};
 
 use agreement::{Agreement, Joining, ProposalId, View};
+use std::marker::Model;
 use voting::quorum::does_count;
+use voting::replica::Replica;
 
 // A message, but for the proposal or the call that it carries.
 #[derive(Clone, Copy)]
@@ -44,136 +48,162 @@ pub enum Deed {
     Whole,
 }
 
-// The deeds of a turn, in their order.
-#[derive(Clone, Copy)]
-pub struct Outbox {
-    pub count: usize,
-    pub deeds: [Deed; 24],
-}
-
-// Nothing is done yet.
-pub fn empty() -> Outbox
-    ensures list { list_of result ≡ [] }
-    ensures count { result.count ≡ 0 }
-{
-    Outbox {
-        count: 0,
-        deeds: [Deed::Whole; 24],
-    }
-}
-
-// One deed more.
-pub fn push(mut outbox: Outbox, deed: Deed) -> Outbox
-    requires { outbox.count < 24 }
-    ensures list { list_of result ≡ list_of outbox ++ (deed ∷ []) }
-    ensures count { result.count ≡ outbox.count + 1 }
-{
-    outbox.deeds[outbox.count] = deed;
-    outbox.count += 1;
-    outbox
-}
-
 // What a leader says to a replica that answered for what it holds: that it still leads.
-pub fn alive_to(a: Agreement, j: u8) -> Word
-    requires { j < 7 }
-    ensures { result ≡ aliveBy a j }
+pub fn alive_to(a: Agreement, j: Replica) -> Word
+    ensures { result ≡ aliveBy a j.index }
 {
     Word::Alive {
         id: a.accepted,
         chosen: a.chosen,
-        named: a.places[j as usize].incarnation,
+        named: a.places[j.index as usize].incarnation,
     }
 }
 
 // What a leader says to a replica.
-pub fn word_to(a: Agreement, j: u8) -> Word
-    requires { j < 7 }
-    ensures { result ≡ word_by a j }
+pub fn word_to(a: Agreement, j: Replica) -> Word
+    ensures { result ≡ word_by a j.index }
 {
-    match a.votes[j as usize] {
+    match a.votes[j.index as usize] {
         Some(_) => alive_to(a, j),
         None => Word::Propose { chosen: a.chosen },
     }
 }
 
-// A leader speaks to one replica, if that is another.
-pub fn tell(outbox: Outbox, a: Agreement, j: u8) -> Outbox
-    requires { (j < 7) × (outbox.count < 24) }
-    ensures list { list_of result ≡ list_of outbox ++ tellBy a j }
-    ensures count { result.count ≤ outbox.count + 1 }
+// What a leader says to a replica, if that is another.
+fn told(a: Agreement, j: Replica) -> Option<Word>
+    ensures { said j.index result ≡ tellBy a j.index }
 {
-    if j == a.me {
-        return outbox;
+    if j.index == a.me {
+        return None;
     }
-    push(
-        outbox,
-        Deed::Say {
-            to: j,
-            word: word_to(a, j),
-        },
-    )
+    Some(word_to(a, j))
 }
 
-// A leader speaks to all others.
-pub fn tell_all(mut outbox: Outbox, a: Agreement) -> Outbox
-    requires { (a.all ≤ 7) × (outbox.count + 7 ≤ 24) }
-    ensures list { list_of result ≡ list_of outbox ++ tellAllBy a }
-    ensures count { result.count ≤ outbox.count + a.all }
+// What a candidate says to a replica, if that is another whose promise it does not have.
+fn asked(a: Agreement, j: Replica) -> Option<Word>
+    ensures { said j.index result ≡ askBy a j.index }
 {
-    for j in 0..a.all {
-        outbox = tell(outbox, a, j);
+    if j.index == a.me || does_count(a.votes, a.places, j) {
+        return None;
     }
-    outbox
+    Some(Word::Prepare(a.promised))
 }
 
-// A candidate asks one replica for its promise, if that is another whose promise it does not have.
-fn ask(outbox: Outbox, a: Agreement, j: u8) -> Outbox
-    requires { (j < 7) × (outbox.count < 24) }
-    ensures list { list_of result ≡ list_of outbox ++ askBy a j }
-    ensures count { result.count ≤ outbox.count + 1 }
-{
-    if j == a.me || does_count(a.votes, a.places, j as usize) {
-        return outbox;
-    }
-    push(
-        outbox,
-        Deed::Say {
-            to: j,
-            word: Word::Prepare(a.promised),
-        },
-    )
+// The deeds of a turn, in their order.
+// kept: a turn takes no memory from the heap, so its deeds, at most 24, lie in the outbox itself.
+#[derive(Drop)]
+pub struct Outbox {
+    count: usize,
+    deeds: [Deed; 24],
 }
 
-// A candidate asks all whose promise it does not have.
-pub fn ask_all(mut outbox: Outbox, a: Agreement) -> Outbox
-    requires { (a.all ≤ 7) × (outbox.count + 7 ≤ 24) }
-    ensures list { list_of result ≡ list_of outbox ++ askAllBy a }
-    ensures count { result.count ≤ outbox.count + a.all }
-{
-    for j in 0..a.all {
-        outbox = ask(outbox, a, j);
-    }
-    outbox
+impl Model for Outbox {
+    ghost use Rattle.std.specs.Prelude.{◌≤◌, List, take};
+    ghost use Rattle.outbox.specs.declared.Deed.{Deed};
+
+    ghost Value = { List Deed };
+
+    ghost view = { λ outbox. take outbox.count outbox.deeds };
+
+    ghost invariant = { λ outbox. outbox.count ≤ 24 };
 }
 
-// A leader tells the replica whose job it was, if that is another, that what it holds is chosen.
-pub fn tell_done(outbox: Outbox, a: Agreement, job: Option<u8>) -> Outbox
-    requires job { Below job }
-    requires room { outbox.count < 24 }
-    ensures list { list_of result ≡ list_of outbox ++ tellDoneBy a job }
-    ensures count { result.count ≤ outbox.count + 1 }
-{
-    let Some(j) = job else {
-        return outbox;
-    };
-    if j == a.me {
-        return outbox;
+impl Outbox {
+    // Nothing is done yet.
+    pub fn new() -> Self
+        ensures { result ≡ [] }
+    {
+        Outbox {
+            count: 0,
+            deeds: [Deed::Whole; 24],
+        }
     }
-    push(
-        outbox,
-        Deed::Say {
-            to: j,
-            word: alive_to(a, j),
-        },
-    )
+
+    // What is done so far, in order.
+    pub fn deeds(&self) -> &[Deed]
+        ensures { result.now ≡ self.now }
+    {
+        &self.deeds[..self.count]
+    }
+
+    // One deed more.
+    // kept: whether there is room is known only of some outboxes.
+    pub fn push(&mut self, deed: Deed)
+        requires { length self.old < 24 }
+        ensures { self.new ≡ self.old ++ (deed ∷ []) }
+    {
+        self.deeds[self.count] = deed;
+        self.count += 1;
+    }
+
+    // Something is said to one replica, if there is something to say.
+    // kept: whether there is room is known only of some outboxes.
+    fn say(&mut self, j: Replica, word: Option<Word>)
+        requires { length self.old < 24 }
+        ensures list { self.new ≡ self.old ++ said j.index word }
+        ensures count { length self.new ≤ length self.old + 1 }
+    {
+        if let Some(word) = word {
+            self.push(Deed::Say { to: j.index, word });
+        }
+    }
+
+    // What there is to say to each of all replicas is said.
+    fn say_each<F: Fn(Replica) -> Option<Word>>(&mut self, all: u8, word: F)
+        requires room { (all ≤ 7) × (length self.old + 7 ≤ 24) }
+        requires callable { F.IsAlwaysCallable word }
+        ensures list { (f : ℕ → List Deed) → ((j : Replica) (w : _) → F.post word j w → said j.index w ≡ f j.index) → self.new ≡ self.old ++ eachOf all f }
+        ensures count { length self.new ≤ length self.old + all }
+    {
+        // kept: std says nothing of what a closure changed after `for_each`.
+        for index in 0..all {
+            let j = Replica { index };
+            self.say(j, word(j));
+        }
+    }
+
+    // A leader speaks to one replica, if that is another.
+    // kept: whether there is room is known only of some outboxes.
+    pub fn tell(&mut self, a: Agreement, j: Replica)
+        requires { length self.old < 24 }
+        ensures list { self.new ≡ self.old ++ tellBy a j.index }
+        ensures count { length self.new ≤ length self.old + 1 }
+    {
+        self.say(j, told(a, j));
+    }
+
+    // A leader speaks to all others.
+    pub fn tell_all(&mut self, a: Agreement)
+        requires { (a.all ≤ 7) × (length self.old + 7 ≤ 24) }
+        ensures list { self.new ≡ self.old ++ tellAllBy a }
+        ensures count { length self.new ≤ length self.old + a.all }
+    {
+        self.say_each(a.all, |j| told(a, j));
+    }
+
+    // A candidate asks all whose promise it does not have.
+    pub fn ask_all(&mut self, a: Agreement)
+        requires { (a.all ≤ 7) × (length self.old + 7 ≤ 24) }
+        ensures list { self.new ≡ self.old ++ askAllBy a }
+        ensures count { length self.new ≤ length self.old + a.all }
+    {
+        self.say_each(a.all, |j| asked(a, j));
+    }
+
+    // A leader tells the replica whose job it was, if that is another, that what it holds is chosen.
+    // kept: whether there is room is known only of some outboxes.
+    pub fn tell_done(&mut self, a: Agreement, job: Option<u8>)
+        requires job { Below job }
+        requires room { length self.old < 24 }
+        ensures list { self.new ≡ self.old ++ tellDoneBy a job }
+        ensures count { length self.new ≤ length self.old + 1 }
+    {
+        match job {
+            Some(index) if index != a.me => {
+                let word = alive_to(a, Replica { index });
+                self.push(Deed::Say { to: index, word });
+            }
+            _ => {}
+        }
+    }
 }

@@ -1,9 +1,8 @@
 -- What a replica by value and lent memory stand for: the machine's mind; and a turn under way: what was done so far, and the mind that there is now.
 -- A proposal that is said is the one that is held, a call lies in its slot, an answer among those of this turn. Assumes nothing.
-use Rattle.std.specs.Prelude.{◌≡◌, ℕ, suc, ◌+◌, ◌<◌, ◌≤◌, Bool, not, ◌&&◌, List, ◌++◌, map, ◌==◌, nat_lt, slice_index}
+use Rattle.std.specs.Prelude.{◌≡◌, ℕ, suc, ◌+◌, Bool, not, ◌&&◌, List, map, ◌==◌, nat_lt, slice_index}
 use Rattle.std.specs.List.{between}
 use Rattle.runs.specs.Replicas.{Does, Says, Gives, Whole'}
-use Rattle.agreement.specs.declared.Agreement.{Agreement}
 use Rattle.agreement.specs.Content.{Proposal, limit}
 use Rattle.agreement.specs.Machine.{Msg, Prepare, Promise, Propose, Alive, Accepted, Join, Forward, Mind, accepted, is_member, then_do}
 use Rattle.agreement.specs.Machine as Machine
@@ -12,7 +11,6 @@ use Rattle.outbox.specs.declared.Word.{Word}
 use Rattle.outbox.specs.declared.Word.TheVariants as word
 use Rattle.outbox.specs.declared.Deed.{Deed}
 use Rattle.outbox.specs.declared.Deed.TheVariants as deed
-use Rattle.outbox.specs.Deeds.{list_of}
 use Rattle.memory.specs.declared.lent.Memory.{Memory}
 use Rattle.memory.specs.Keeps.{state_in, slot_at, waiting_in, queued_in}
 use Rattle.turning.specs.declared.House.{House}
@@ -42,7 +40,7 @@ done_in room h m d = deed_of room (accepted (mind_of room h m)) (slot_at h.kept 
 
 -- THE TURN SO FAR
 abbrev pub turn_of : (room : ℕ) → Turn → Memory → Machine.Turn (lines room)
-turn_of room t m = record { does = map (done_in room t.house m) (list_of t.outbox); mind = mind_of room t.house m }
+turn_of room t m = record { does = map (done_in room t.house m) t.outbox; mind = mind_of room t.house m }
 
 -- MOVES. By value: on whatever memory there is, the machine's move is made next
 abbrev pub Move : Type 0
@@ -51,11 +49,6 @@ Move = (room : ℕ) → Mind (lines room) → Machine.Turn (lines room)
 abbrev pub MovesBy : Move → Turn → Turn → Type 0
 MovesBy f t r = (room : ℕ) (m : Memory) → turn_of room r m ≡ then_do (turn_of room t m) (f room)
 
--- deeds were added
-pub record Added (t : Turn) (ds : List Deed) (r : Turn) : Type 0 where
-  pub house : r.house ≡ t.house
-  pub list : list_of r.outbox ≡ list_of t.outbox ++ ds
-
 -- does it forward its oldest call
 abbrev pub may_forward : House → Bool
 may_forward h = not (h.kept.count == 0) && (is_member h.agreement.role && (nat_lt (suc h.agreement.no) limit && not (h.agreement.promised.leader == h.agreement.me)))
@@ -63,15 +56,3 @@ may_forward h = not (h.kept.count == 0) && (is_member h.agreement.role && (nat_l
 -- the header by which it does
 abbrev pub oldest_said : House → Deed
 oldest_said h = deed.Say h.agreement.promised.leader (word.Forward h.agreement.incarnation (h.agreement.no + 1) (slice_index h.kept.numbers h.kept.first) h.kept.first)
-
--- who it is, how many there are, and the leader of its view
-pub record Able (a : Agreement) : Type 0 where
-  pub me : a.me < a.all
-  pub few : a.all ≤ 7
-  pub leader : a.promised.leader < a.all
-
--- the same replica and deeds, with another agreement
-pub record Agrees (t : Turn) (a : Agreement) (r : Turn) : Type 0 where
-  pub agreement : r.house.agreement ≡ a
-  pub kept : r.house.kept ≡ t.house.kept
-  pub outbox : r.outbox ≡ t.outbox

@@ -1,9 +1,15 @@
 -- What the machine reads off the part of a mind that is by value. Each is the machine's own definition, of that part alone.
-use Rattle.std.specs.Prelude.{ℕ, suc, ◌-◌, ◌*◌, Bool, false, cond, ◌&&◌, ◌||◌, ◌==◌, nat_lt, slice_index_or}
+use Rattle.std.specs.Prelude.{ℕ, suc, ◌-◌, ◌*◌, ◌<◌, ◌≤◌, Bool, false, cond, ◌&&◌, ◌||◌, ◌==◌, nat_lt, slice_index_or}
 use Rattle.runs.specs.Replicas.{how_many}
 use Rattle.agreement.specs.declared.Agreement.{Agreement}
 use Rattle.agreement.specs.Content.{limit, seven}
 use Rattle.agreement.specs.Machine.{is_leader, keeping_time, patience_of}
+
+-- who it is, how many there are, and the leader of its view
+pub record Able (a : Agreement) : Type 0 where
+  pub me : a.me < a.all
+  pub few : a.all ≤ 7
+  pub leader : a.promised.leader < a.all
 
 -- a leader heard more than half
 abbrev pub is_heard : Agreement → ℕ → Bool

@@ -3,4 +3,5 @@
 
 pub mod order;
 pub mod quorum;
+pub mod replica;
 pub mod time;

@@ -1,4 +1,6 @@
 // The order of views, and of proposals: as that of the numbers that the machine compares.
+#![tactic(auto, unfolding(agreement::specs::Content::rank))]
+
 ghost use Rattle.std.specs.Prelude.{◌≡◌, ◌<◌, ◌==◌, nat_lt};
 ghost use Rattle.agreement.specs.Content.{rank, rank_id};
 
@@ -9,9 +11,7 @@ pub fn is_below(a: View, b: View) -> bool
     requires { (a.leader < 8) × (b.leader < 8) }
     ensures { result ≡ nat_lt (rank a) (rank b) }
 {
-    a.number < b.number
-        || a.number == b.number
-            && (a.leader < b.leader || a.leader == b.leader && a.incarnation < b.incarnation)
+    a < b
 }
 
 // Are two views the same.
@@ -19,21 +19,21 @@ pub fn is_same(a: View, b: View) -> bool
     requires { (a.leader < 8) × (b.leader < 8) }
     ensures { result ≡ (rank a == rank b) }
 {
-    a.number == b.number && a.leader == b.leader && a.incarnation == b.incarnation
+    a == b
 }
 
 // Is a proposal below another.
-pub fn is_lower(a: ProposalId, b: ProposalId) -> bool
-    requires { (a.view.leader < 8) × (b.view.leader < 8) }
-    ensures { result ≡ nat_lt (rank_id a) (rank_id b) }
+pub fn is_lower(p: ProposalId, q: ProposalId) -> bool
+    requires { (p.view.leader < 8) × (q.view.leader < 8) }
+    ensures { result ≡ nat_lt (rank_id p) (rank_id q) }
 {
-    is_below(a.view, b.view) || is_same(a.view, b.view) && a.seq < b.seq
+    p < q
 }
 
 // Are two proposals the same.
-pub fn is_id(a: ProposalId, b: ProposalId) -> bool
-    requires { (a.view.leader < 8) × (b.view.leader < 8) }
-    ensures { result ≡ (rank_id a == rank_id b) }
+pub fn is_id(p: ProposalId, q: ProposalId) -> bool
+    requires { (p.view.leader < 8) × (q.view.leader < 8) }
+    ensures { result ≡ (rank_id p == rank_id q) }
 {
-    is_same(a.view, b.view) && a.seq == b.seq
+    p == q
 }

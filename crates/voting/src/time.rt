@@ -2,43 +2,38 @@
 ghost use Rattle.std.specs.Prelude.{◌≡◌, suc, ◌-◌, ◌*◌, ◌<◌, ◌≤◌, true, false, cond, not, ◌&&◌, ◌||◌, slice_set};
 ghost use Rattle.agreement.specs.Content.{limit, seven};
 ghost use Rattle.agreement.specs.Machine.{is_leader, is_candidate, is_member, keeping_time, patience_of};
-ghost use Rattle.voting.specs.Values.{is_heard, heard_most_by, ticked_by, may_stand_by};
+ghost use Rattle.voting.specs.Values.{Able, heard_most_by, ticked_by, may_stand_by};
 
+use crate::quorum::more_than_half;
+use crate::replica::Replica;
 use agreement::{Agreement, Role};
 
+// kept: each of the two states one test of the machine; a test over any role would be the derived `==` under another name.
 // Is it the leader of its view.
 pub fn is_leader(role: Role) -> bool
     ensures { result ≡ is_leader role }
 {
-    match role {
-        Role::Leader => true,
-        Role::Recovering | Role::Follower | Role::Candidate => false,
-    }
+    role == Role::Leader
 }
 
 // Does it stand for its view.
 pub fn is_candidate(role: Role) -> bool
     ensures { result ≡ is_candidate role }
 {
-    match role {
-        Role::Candidate => true,
-        Role::Recovering | Role::Follower | Role::Leader => false,
-    }
+    role == Role::Candidate
 }
 
 // Is it a member, who votes.
 pub fn is_member(role: Role) -> bool
     ensures { result ≡ is_member role }
 {
-    match role {
-        Role::Recovering => false,
-        Role::Follower | Role::Candidate | Role::Leader => true,
-    }
+    role != Role::Recovering
 }
 
 // How many beats it has until it stands: 6 for a leader; for others by how far behind the replica that leads they are.
+// kept: agreement's state is by value, of any kind, and only some are able.
 pub fn patience_of(a: Agreement) -> u8
-    requires { (a.me < a.all) × ((a.all ≤ 7) × (a.promised.leader < a.all)) }
+    requires { Able a }
     ensures is { result ≡ patience_of a }
     ensures few { result ≤ 18 }
 {
@@ -49,20 +44,13 @@ pub fn patience_of(a: Agreement) -> u8
 }
 
 // Its patience as when it began to wait.
+// kept: agreement's state is by value, of any kind, and only some are able.
 pub fn anew(mut a: Agreement) -> Agreement
-    requires { (a.me < a.all) × ((a.all ≤ 7) × (a.promised.leader < a.all)) }
+    requires { Able a }
     ensures { result ≡ keeping_time (patience_of a) a.heard a }
 {
     a.patience = patience_of(a);
     a
-}
-
-// Was a replica heard, or is it this one.
-fn is_heard(a: Agreement, j: usize) -> bool
-    requires { j < 7 }
-    ensures { result ≡ is_heard a j }
-{
-    j == a.me as usize || a.heard[j]
 }
 
 // Is it a leader that heard more than half.
@@ -70,27 +58,18 @@ pub fn heard_most(a: Agreement) -> bool
     requires { a.all ≤ 7 }
     ensures { result ≡ heard_most_by a }
 {
-    if !is_leader(a.role) {
-        return false;
-    }
-    let mut some: u8 = 0;
-    for i in 0..a.all {
-        let j = i as usize;
-        if is_heard(a, j) {
-            some += 1;
-        }
-    }
-    a.all < 2 * some
+    is_leader(a.role) && more_than_half(a.all, |j| j.index == a.me || a.heard[j.index as usize])
 }
 
 // A tick: a leader that heard more than half has new patience, and listens anew; patience falls.
+// kept: agreement's state is by value, of any kind, and only some are able.
 pub fn ticked(mut a: Agreement) -> Agreement
-    requires { (a.me < a.all) × ((a.all ≤ 7) × (a.promised.leader < a.all)) }
+    requires { Able a }
     ensures { result ≡ ticked_by a }
 {
     if heard_most(a) {
         a.patience = patience_of(a).saturating_sub(1);
-        a.heard = [false, false, false, false, false, false, false];
+        a.heard = [false; 7];
         return a;
     }
     a.patience = a.patience.saturating_sub(1);
@@ -101,14 +80,13 @@ pub fn ticked(mut a: Agreement) -> Agreement
 pub fn may_stand(a: Agreement) -> bool
     ensures { result ≡ may_stand_by a }
 {
-    a.patience == 0 && a.all > 1 && a.promised.number < 18446744073709551615
+    a.patience == 0 && a.all > 1 && a.promised.number < u64::MAX
 }
 
 // A replica was heard.
-pub fn heard_from(mut a: Agreement, j: u8) -> Agreement
-    requires { j < 7 }
-    ensures { result ≡ keeping_time a.patience (slice_set a.heard j true) a }
+pub fn heard_from(mut a: Agreement, j: Replica) -> Agreement
+    ensures { result ≡ keeping_time a.patience (slice_set a.heard j.index true) a }
 {
-    a.heard[j as usize] = true;
+    a.heard[j.index as usize] = true;
     a
 }

@@ -4,11 +4,8 @@ use Rattle.outbox.specs.Deeds.{askAllBy}
 use Rattle.turning.proofs.Saying.{moved_by, ask_all_done}
 use Rattle.turning.proofs.ask_all.Goals as goal
 
-pub returns : goal.returns
+pub returns-clause-moves : goal.returns-clause-moves
 unfolding ask_all
-returns c =
+returns-clause-moves c =
     let t = c.args.turn in
-    record {
-      moves = λ room m. moved_by room m t c.ask_all.result (askAllBy t.house.agreement) ask_all c.ask_all.ensures.list (ask_all_done room t.house m) refl;
-      count = c.ask_all.ensures.count;
-    }
+    λ room m. moved_by room m t c.ask_all.new.self (askAllBy t.house.agreement) ask_all c.ask_all.ensures.list (ask_all_done room t.house m) refl

@@ -2,6 +2,6 @@ use Rattle.agreement.specs.Machine.{then_do}
 use Rattle.turning.proofs.Saying.{added_turn}
 use Rattle.turning.proofs.catch_up.Goals as goal
 
-pub returns : goal.returns
+pub returns-clause-moves : goal.returns-clause-moves
 unfolding then_do
-returns c = record { moves = λ room m. added_turn room m c.args.turn c.«and».result _ c.«and».ensures.added; count = c.«and».ensures.count }
+returns-clause-moves c = λ room m. added_turn room m c.args.turn c.push.new.self _ c.push.ensures

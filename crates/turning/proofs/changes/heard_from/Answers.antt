@@ -1,12 +1,7 @@
-use Rattle.std.proofs.Common.{ap}
-use Rattle.agreement.specs.declared.Agreement.{Agreement}
+use Rattle.std.proofs.Common.{refl}
 use Rattle.agreement.specs.Machine.{heard_from}
-use Rattle.turning.specs.Turns.{mind_of}
 use Rattle.turning.proofs.Changing.{changed_turn}
 use Rattle.turning.proofs.changes.heard_from.Goals as goal
 
 pub returns : goal.returns
-returns c =
-    let t = c.args.turn in
-    let e = c.heard_from.ensures in
-    changed_turn (λ room. heard_from c.args.j) t c.«with».result c.heard_from.result c.«with».ensures (record { id = ap (λ (a : Agreement). a.accepted) e; places = ap (λ (a : Agreement). a.places) e }) (λ room m i. mind_of room (record { agreement = e i; kept = t.house.kept }) m)
+returns c = changed_turn (λ room. heard_from c.args.j.index) c.args.turn _ _ c.heard_from-turn.ensures (record { id = refl; places = refl }) (λ room m. refl)

@@ -1,12 +1,7 @@
-use Rattle.std.proofs.Common.{ap}
-use Rattle.agreement.specs.declared.Agreement.{Agreement}
+use Rattle.std.proofs.Common.{refl}
 use Rattle.agreement.specs.Machine.{learned}
-use Rattle.turning.specs.Turns.{mind_of}
 use Rattle.turning.proofs.Changing.{changed_turn}
 use Rattle.turning.proofs.changes.learned.Goals as goal
 
 pub returns : goal.returns
-returns c =
-    let t = c.args.turn in
-    let e = c.learned.ensures in
-    changed_turn (λ room. learned) t c.«with».result c.learned.result c.«with».ensures (record { id = ap (λ (a : Agreement). a.accepted) e; places = ap (λ (a : Agreement). a.places) e }) (λ room m i. mind_of room (record { agreement = e i; kept = t.house.kept }) m)
+returns c = changed_turn (λ room. learned) c.args.turn _ _ c.learned-turn.ensures (record { id = refl; places = refl }) (λ room m. refl)
