@@ -36,10 +36,10 @@ pub fn read_decimal(text: &[u8]) -> Result<u64, DecimalFault>
     }
     let mut n: u64 = 0;
     for (i, c) in text.iter().enumerate() {
-        if *c < 48 || *c > 57 {
+        if !c.is_ascii_digit() {
             return Err(DecimalFault::Digit(i));
         }
-        let digit = (*c - 48) as u64;
+        let digit = (*c - b'0') as u64;
         if n > (u64::MAX - digit) / 10 {
             return Err(DecimalFault::Large);
         }

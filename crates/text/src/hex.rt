@@ -32,7 +32,7 @@ pub fn hex_digit(n: u8) -> u8
     requires { n < 16 }
     ensures { result ≡ hex_digit n }
 {
-    if n < 10 { 48 + n } else { 87 + n }
+    if n < 10 { b'0' + n } else { b'a' + (n - 10) }
 }
 
 pub fn hex_value(c: u8) -> Option<u8>
@@ -40,9 +40,9 @@ pub fn hex_value(c: u8) -> Option<u8>
     ensures small { IfSome result (λ v. v < 16) }
 {
     match c {
-        48..=57 => Some(c - 48),
-        97..=102 => Some(c - 87),
-        65..=70 => Some(c - 55),
+        b'0'..=b'9' => Some(c - b'0'),
+        b'a'..=b'f' => Some(c - b'a' + 10),
+        b'A'..=b'F' => Some(c - b'A' + 10),
         _ => None,
     }
 }

@@ -1,10 +1,10 @@
 -- Each way out, and each turn, is one step of the definition.
-use Rattle.std.proofs.Common.{◌≡◌, ◌-◌, ℕ, List, length, drop, take, Ok, Err, vec_items, sym, ap, ◌∙◌, arith}
+use Rattle.std.proofs.Common.{◌≡◌, ◌-◌, ℕ, length, Ok, Err, vec_items, sym, ap, ◌∙◌, arith}
 use Rattle.std.proofs.lemmas.Bool.Decides.{nat_tests}
-use Rattle.std.proofs.lemmas.List.{append-nil, take_rest, length-take, length-drop}
+use Rattle.std.proofs.lemmas.List.{append-nil, take_rest, length-drop}
 use Rattle.std.proofs.lemmas.Result.{err_from_is_err_and}
 use Rattle.text.specs.declared.hex.HexFault.TheVariants.{Odd}
-use Rattle.text.specs.Hex.{unhex, unhex_from, bytes_before}
+use Rattle.text.specs.Hex.{unhex, bytes_before}
 use Rattle.text.proofs.HexSteps.{byte_next, byte_fault, unhexed_fault, unhex_end, unhex_lone}
 use Rattle.text.proofs.hex.read_hex.Goals as goal
 

@@ -1,5 +1,5 @@
 -- What is still to read, behind the bytes that were read, is what there was to read.
-use Rattle.std.proofs.Common.{◌≡◌, ℕ, ◌-◌, ◌≤◌, length, vec_items}
+use Rattle.std.proofs.Common.{◌≡◌, ◌-◌, ◌≤◌, length, vec_items}
 use Rattle.text.specs.Hex.{unhex, unhex_from, bytes_before}
 use Rattle.text.proofs.hex.read_hex.Given as goal
 

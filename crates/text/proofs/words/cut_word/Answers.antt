@@ -1,5 +1,5 @@
 -- The place of the first space is where the word ends.
-use Rattle.std.proofs.Common.{◌+◌, rules, tests, sym, ◌∙◌}
+use Rattle.std.proofs.Common.{◌+◌, rules, tests, ◌∙◌}
 use Rattle.std.proofs.lemmas.Iterator.{YieldsList-from_slice}
 use Rattle.std.proofs.lemmas.Iterator.Search.{position_from_yields_List}
 use Rattle.std.proofs.lemmas.List.{take_rest}
