@@ -12,7 +12,7 @@ use encoding::push_call as push_bytes;
 use replies::push_answer;
 use script::houses::Houses;
 use script::incarnations::choose;
-use script::lines::{Command, Link, Which};
+use script::lines::{Command, Link};
 use script::network::{copies, part};
 use spelling::wording::push_call;
 use std::io;
@@ -69,14 +69,14 @@ fn is_up(houses: Houses, house: u8) -> bool
     house < houses.all && house < 7 && houses.up[house as usize]
 }
 
-fn play_beat(houses: Houses, which: Which) {
+fn play_beat(houses: Houses, which: Option<u8>) {
     match which {
-        Which::One(house) => {
+        Some(house) => {
             if is_up(houses, house) {
                 beat(house);
             }
         }
-        Which::All => {
+        None => {
             for house in 0..houses.all {
                 if is_up(houses, house) {
                     beat(house);
@@ -87,7 +87,7 @@ fn play_beat(houses: Houses, which: Which) {
 }
 
 // The letters of a link come, and are under way no more.
-fn play_pass(rt: &HostRuntime, scene: &mut Scene, houses: Houses, link: Link) -> anyhow::Result<()>
+fn play_pass(rt: &HostRuntime, scene: &mut Scene, houses: Houses, link: Option<Link>) -> anyhow::Result<()>
     ensures { OnOk result (scene.new.houses ≡ scene.old.houses) }
 {
     let heap = rt.alloc();
@@ -103,7 +103,7 @@ fn play_pass(rt: &HostRuntime, scene: &mut Scene, houses: Houses, link: Link) ->
 }
 
 // They are lost.
-fn play_lose(rt: &HostRuntime, scene: &mut Scene, link: Link) -> anyhow::Result<()>
+fn play_lose(rt: &HostRuntime, scene: &mut Scene, link: Option<Link>) -> anyhow::Result<()>
     ensures { OnOk result (scene.new.houses ≡ scene.old.houses) }
 {
     let heap = rt.alloc();
@@ -114,7 +114,7 @@ fn play_lose(rt: &HostRuntime, scene: &mut Scene, link: Link) -> anyhow::Result<
 }
 
 // They come, and stay under way.
-fn play_twice(rt: &HostRuntime, scene: &Scene, houses: Houses, link: Link) -> anyhow::Result<()> {
+fn play_twice(rt: &HostRuntime, scene: &Scene, houses: Houses, link: Option<Link>) -> anyhow::Result<()> {
     for letter in copies(rt.alloc(), &scene.letters, link)? {
         if is_up(houses, letter.to) {
             hear(letter.to, letter.from, &letter.bytes);

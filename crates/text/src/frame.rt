@@ -5,7 +5,7 @@ ghost use Rattle.text.specs.declared.frame.FrameFault.TheVariants.{Memory};
 
 use lent_bytes::numbers::{read_u32, read_u64};
 use std::alloc::AllocError;
-use std::fmt;
+use thiserror::Error;
 
 #[derive(Clone, Copy)]
 pub struct Frame<'a> {
@@ -13,30 +13,23 @@ pub struct Frame<'a> {
     pub call: &'a [u8],
 }
 
-#[derive(Clone, Copy)]
+// Why bytes are no frame, or a call has none.
+#[derive(Clone, Copy, Debug, PartialEq, Eq, Error)]
 pub enum FrameFault {
     // fewer than 12 bytes: a length, and a number behind it
+    #[error("fewer than 12 bytes: a length and a number are wanted")]
     Short,
     // another length than the rest has
+    #[error("the length does not match")]
     Length,
     // 2^32 bytes or more behind the length
+    #[error("too long for a length of 4 bytes")]
     Long,
+    #[error("no memory")]
     Memory,
 }
 
-impl fmt::Display for FrameFault {
-    fn fmt<W: fmt::Write>(&self, f: &mut fmt::Formatter<W>) -> fmt::Result {
-        match self {
-            FrameFault::Short => f.write_str(
-                "fewer than 12 bytes: a length and a number are wanted",
-            ),
-            FrameFault::Length => f.write_str("the length does not match"),
-            FrameFault::Long => f.write_str("too long for a length of 4 bytes"),
-            FrameFault::Memory => f.write_str("no memory"),
-        }
-    }
-}
-
+// kept: clauses name the fault that ? makes, and only a From by hand says it
 impl From<AllocError> for FrameFault {
     ghost from_gives = { λ _ r. r ≡ Memory };
 
@@ -60,6 +53,7 @@ pub fn read_frame(bytes: &[u8]) -> Result<Frame<'_>, FrameFault>
 }
 
 // Writes the call's frame behind what is there.
+// kept: a frame is bytes, not text
 pub fn push_frame(out: &mut Vec<u8>, number: u64, call: &[u8]) -> Result<(), FrameFault>
     ensures { FramePushed result number call.now out.old.items out.new.items }
 {
