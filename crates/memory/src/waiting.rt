@@ -11,6 +11,7 @@ use calls::screening::screen;
 use calls::types::Call;
 
 // Writes bytes into a part.
+// kept: append_bytes tells nothing of what is behind the part that it writes
 fn write_at(out: &mut [u8], at: usize, bytes: &[u8])
     requires { at + length bytes.now ≤ length out.old }
     ensures { PutAt at bytes.now out.old out.new }
