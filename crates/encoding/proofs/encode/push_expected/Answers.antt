@@ -4,7 +4,7 @@ use Rattle.lent_bytes.specs.Numbers.{be8}
 use Rattle.calls.specs.Format.{expect_written}
 use Rattle.calls.specs.Reading.{expect_of}
 use Rattle.text.proofs.Appends.{two_parts}
-use Rattle.encoding.proofs.push_expected.Goals as goal
+use Rattle.encoding.proofs.encode.push_expected.Goals as goal
 
 pub returns-in_ok-extend_from_slice-in-Exactly : goal.returns-in_ok-extend_from_slice-in-Exactly
 unfolding be8
