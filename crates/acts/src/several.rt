@@ -2,7 +2,6 @@
 ghost use Rattle.std.specs.Prelude.{◌≡◌, ◌+◌, ◌<◌, ◌≤◌, false, ◌||◌, [], length, IfOk, Some, nat_lt};
 ghost use Rattle.std.specs.List.{AllByRecursion};
 ghost use Rattle.model.specs.Tree.{acts, does, values_in, Do};
-ghost use Rattle.lent_bytes.specs.Paths.{Spells};
 ghost use Rattle.calls.specs.Format.{act_at};
 ghost use Rattle.calls.specs.Reading.{act_of, acts_in, past};
 ghost use Rattle.cells.specs.Layout.{Holds, state_of};
@@ -66,7 +65,6 @@ fn do_next(
     requires ready { Ready room (standing stands tree.bytes.now tree.places.now left.old lefts.old right.old rights.old) }
     requires left { Suits room left.old lefts.old }
     requires right { Suits room right.old rights.old }
-    requires spells { Spells act.path.now }
     requires plain { numbered act.kind ≡ false }
     ensures step { step_at (made_by (act_of act.entry)) result tree.entry.bytes.now tree.entry.places.now left.new lefts.new right.new rights.new ≡ counting changes.0 (weighed room (standing stands tree.entry.bytes.now tree.entry.places.now left.old lefts.old right.old rights.old) (acts (act_of act.entry) (standing stands tree.entry.bytes.now tree.entry.places.now left.old lefts.old right.old rights.old))) }
     ensures stands { IfOk result (λ s. StandsIn s tree.entry.bytes.now tree.entry.places.now left.new lefts.new right.new rights.new) }
@@ -114,14 +112,14 @@ fn too_large(count: u8, acts: &[u8]) -> bool
     let mut rest = acts;
     let mut sum = 0;
     for n in 0..count {
-        let Some(read) = read_act(rest) else {
+        let Some((act, behind)) = read_act(rest) else {
             return false;
         };
-        sum += value_len(read.act);
+        sum += value_len(act);
         if sum > 262144 {
             return true;
         }
-        rest = read.rest;
+        rest = behind;
     }
     false
 }
@@ -155,7 +153,7 @@ fn run_acts(
     let mut stands = Stands::Last;
     let mut refused = None;
     'acts: for n in 0..count {
-        let Some(read) = read_act(rest) else {
+        let Some((act, behind)) = read_act(rest) else {
             return Err(Refused {
                 act: n,
                 refusal: Refusal::OutOfRange,
@@ -163,7 +161,7 @@ fn run_acts(
         };
         let changes = if n + 1 == count { after } else { before };
         match do_next(
-            tree, room, read.act, changes, stands, left, lefts, right, rights,
+            tree, room, act, changes, stands, left, lefts, right, rights,
         ) {
             Ok(next) => stands = next,
             Err(refusal) => {
@@ -171,7 +169,7 @@ fn run_acts(
                 break 'acts;
             }
         }
-        rest = read.rest;
+        rest = behind;
     }
     match refused {
         Some(refused) => Err(refused),

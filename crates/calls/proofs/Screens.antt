@@ -53,7 +53,7 @@ plain_one (kind.Check x) p v = refl
 
 pub core_call_lem : (c : code.Call) → core_call c ≡ core (call_of c)
 unfolding core
-core_call_lem (call.Do n acts) = refl
+core_call_lem (call.Do as') = refl
 core_call_lem (call.Look p) = refl
 core_call_lem (call.Kids p) = refl
 core_call_lem call.Open = refl

@@ -75,6 +75,15 @@ unfoldable pub many_at : {A : Type 0} → (List ℕ → Option (A × List ℕ)) 
 many_at f zero bs = Some ([], bs)
 many_at f (suc k) bs = and_then (f bs) (λ r. and_then (many_at f k r.1) (λ q. Some (r.0 ∷ q.0, q.1)))
 
+-- what is left behind something that was read
+abbrev pub rest : {A : Type 0} → Option (A × List ℕ) → Option (List ℕ)
+rest None = None
+rest (Some r) = Some r.1
+
+-- what is behind so many of one kind
+abbrev pub past : {A : Type 0} → (List ℕ → Option (A × List ℕ)) → ℕ → List ℕ → Option (List ℕ)
+past f k xs = rest (many_at f k xs)
+
 abbrev pub names_at : ℕ → List ℕ → Option (Path × List ℕ)
 names_at k bs = many_at name_at k bs
 

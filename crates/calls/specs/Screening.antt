@@ -1,10 +1,10 @@
 -- Which bytes are let through to the tree. What isn't built yet is told first, by the front of the bytes alone where that tells it; then what is no call. Assumes nothing.
-use Rattle.std.specs.Prelude.{ℕ, Bool, true, false, cond, not, ◌&&◌, ◌||◌, List, [], ◌∷◌, Some, None, Option, ◌==◌}
+use Rattle.std.specs.Prelude.{ℕ, Bool, true, false, cond, not, ◌&&◌, ◌||◌, List, [], ◌∷◌, Some, None, Option, ◌==◌, Result, Ok, Err}
 use Rattle.model.specs.Tree.{Call, core, one}
 use Rattle.calls.specs.Format.{decode_call}
-use Rattle.calls.specs.Reading.{call_of, CallSpells, acts_in}
-use Rattle.calls.specs.declared.screening.Screened.{Screened}
-use Rattle.calls.specs.declared.screening.Screened.TheVariants as told
+use Rattle.calls.specs.Reading.{call_of, acts_in}
+use Rattle.calls.specs.declared.screening.NotLetIn.{NotLetIn}
+use Rattle.calls.specs.declared.screening.NotLetIn.TheVariants as told
 use Rattle.calls.specs.declared.types.ActKind.{ActKind}
 use Rattle.calls.specs.declared.types.ActKind.TheVariants as kind
 use Rattle.calls.specs.declared.types.Call as code
@@ -28,7 +28,7 @@ plain_kind (kind.Drop x) = true
 plain_kind (kind.Check x) = true
 
 abbrev pub core_call : code.Call → Bool
-core_call (call.Do n acts) = one (acts_in n acts.now)
+core_call (call.Do as') = one (acts_in as'.count as'.bytes.now)
 core_call (call.Look p) = true
 core_call (call.Kids p) = true
 core_call call.Open = false
@@ -49,13 +49,12 @@ decoded (Some c) = cond (core c) (LetIn c) NotBuilt
 abbrev pub screened : List ℕ → Screen
 screened bs = cond (front_not_built bs) NotBuilt (decoded (decode_call bs))
 
--- what the code answers; the number that is said to what is not let in
-abbrev pub screen_of : Screened → Screen
-screen_of told.NotBuilt = NotBuilt
-screen_of told.NoCall = NoCall
-screen_of (told.LetIn c) = LetIn (call_of c)
+-- what the code answers, and the number that is said to what is not let in
+abbrev pub screen_of : Result code.Call NotLetIn → Screen
+screen_of (Err told.NotBuilt) = NotBuilt
+screen_of (Err told.NoCall) = NoCall
+screen_of (Ok c) = LetIn (call_of c)
 
-abbrev pub ScreenSpells : Screened → Type 0
-ScreenSpells told.NotBuilt = Unit {0}
-ScreenSpells told.NoCall = Unit {0}
-ScreenSpells (told.LetIn c) = CallSpells c
+abbrev pub number_of : NotLetIn → ℕ
+number_of told.NotBuilt = 12
+number_of told.NoCall = 1

@@ -1,57 +1,50 @@
 // Readers: what stands at the front of bytes, and the bytes behind it.
 ghost use Rattle.std.specs.Prelude.{◌≡◌};
 ghost use Rattle.std.specs.Option.{option_map};
-ghost use Rattle.calls.specs.Format.{byte_at, part_at, length_at, number_at, name_at, value_at, flag_at, expect_at, make_at, put_at, drop_act_at, check_at, act_at, do_at, end_at, decode_call};
-ghost use Rattle.calls.specs.Reading.{parts, behind, expect_read, PathRead, ActOf, WholePath, CallBy, past, rest};
-ghost use Rattle.lent_bytes.specs.Numbers.{be32, be64};
+ghost use Rattle.calls.specs.Format.{byte_at, part_at, length_at, number_at, name_at, value_at, flag_at, expect_at, make_at, put_at, act_at, do_at, end_at, decode_call, path_at, whole_path, wholly, past, rest};
+ghost use Rattle.calls.specs.Reading.{parts, behind, expect_read, path_read, path_now, act_read, call_of, Expecting};
 
-use crate::types::{Act, ActKind, Call, Expected};
+use crate::types::{Act, ActKind, Acts, Call, Expected};
 use lent_bytes::counts::{Session, Version};
 use lent_bytes::numbers::{read_u32, read_u64};
-use lent_bytes::parts::{Cut, cut_at};
+use lent_bytes::paths::Path;
 
 // So many bytes.
-pub fn part(bytes: &[u8], n: usize) -> Option<Cut<'_>>
+pub fn part(bytes: &[u8], n: usize) -> Option<(&[u8], &[u8])>
     ensures { option_map parts result ≡ part_at n bytes.now }
 {
-    cut_at(bytes, n)
+    bytes.split_at_checked(n)
 }
 
 // One byte.
 pub fn byte(bytes: &[u8]) -> Option<(u8, &[u8])>
     ensures { option_map behind result ≡ byte_at bytes.now }
 {
-    let Some(cut) = cut_at(bytes, 1) else {
-        return None;
-    };
-    Some((bytes[0], cut.rest))
+    let (first, rest) = bytes.split_first()?;
+    Some((*first, rest))
 }
 
+// A number of four bytes.
 pub fn length(bytes: &[u8]) -> Option<(u32, &[u8])>
     ensures { option_map behind result ≡ length_at bytes.now }
 {
-    let Some(cut) = part(bytes, 4) else {
-        return None;
-    };
-    Some((read_u32(cut.part, 0), cut.rest))
+    let (word, rest) = part(bytes, 4)?;
+    Some((read_u32(word, 0), rest))
 }
 
 // A number of eight bytes.
 pub fn number(bytes: &[u8]) -> Option<(u64, &[u8])>
     ensures { option_map behind result ≡ number_at bytes.now }
 {
-    let Some(cut) = part(bytes, 8) else {
-        return None;
-    };
-    Some((read_u64(cut.part, 0), cut.rest))
+    let (word, rest) = part(bytes, 8)?;
+    Some((read_u64(word, 0), rest))
 }
 
-pub fn value(bytes: &[u8]) -> Option<Cut<'_>>
+// A value: its length and so many bytes.
+pub fn value(bytes: &[u8]) -> Option<(&[u8], &[u8])>
     ensures { option_map parts result ≡ value_at bytes.now }
 {
-    let Some((n, rest)) = length(bytes) else {
-        return None;
-    };
+    let (n, rest) = length(bytes)?;
     part(rest, n as usize)
 }
 
@@ -59,9 +52,7 @@ pub fn value(bytes: &[u8]) -> Option<Cut<'_>>
 pub fn flag(bytes: &[u8]) -> Option<(bool, &[u8])>
     ensures { option_map behind result ≡ flag_at bytes.now }
 {
-    let Some((b, rest)) = byte(bytes) else {
-        return None;
-    };
+    let (b, rest) = byte(bytes)?;
     match b {
         0 => Some((false, rest)),
         1 => Some((true, rest)),
@@ -69,18 +60,22 @@ pub fn flag(bytes: &[u8]) -> Option<(bool, &[u8])>
     }
 }
 
+// What was read, if nothing is behind it.
+pub fn wholly<T: Copy>(read: T, rest: &[u8]) -> Option<T>
+    ensures { result ≡ wholly (read, rest.now) }
+{
+    if rest.is_empty() { Some(read) } else { None }
+}
+
+// Which version is expected.
 fn expected(bytes: &[u8]) -> Option<(Expected, &[u8])>
     ensures { option_map expect_read result ≡ expect_at bytes.now }
 {
-    let Some((b, rest)) = byte(bytes) else {
-        return None;
-    };
+    let (b, rest) = byte(bytes)?;
     match b {
         0 => Some((Expected::Any, rest)),
         1 => {
-            let Some((v, rest)) = number(rest) else {
-                return None;
-            };
+            let (v, rest) = number(rest)?;
             Some((Expected::Exactly(Version(v)), rest))
         }
         _ => None,
@@ -91,13 +86,9 @@ fn expected(bytes: &[u8]) -> Option<(Expected, &[u8])>
 fn past_name(bytes: &[u8]) -> Option<&[u8]>
     ensures { option_map (λ x. x.now) result ≡ rest (name_at bytes.now) }
 {
-    let Some((n, rest)) = byte(bytes) else {
-        return None;
-    };
-    let Some(name) = part(rest, n as usize) else {
-        return None;
-    };
-    Some(name.rest)
+    let (n, rest) = byte(bytes)?;
+    let (_, rest) = part(rest, n as usize)?;
+    Some(rest)
 }
 
 // What is behind so many names.
@@ -106,142 +97,78 @@ fn past_names(bytes: &[u8], count: u8) -> Option<&[u8]>
 {
     let mut rest = bytes;
     for _ in 0..count {
-        let Some(next) = past_name(rest) else {
-            return None;
-        };
-        rest = next;
+        rest = past_name(rest)?;
     }
     Some(rest)
 }
 
-// A path's names, and what is behind it.
-#[derive(Clone, Copy)]
-pub struct PathPart<'a> {
-    pub names: &'a [u8],
-    pub rest: &'a [u8],
-}
-
-fn path(bytes: &[u8]) -> Option<PathPart<'_>>
-    ensures { PathRead bytes.now result }
+// A path, and what is behind it.
+fn path(bytes: &[u8]) -> Option<(Path<'_>, &[u8])>
+    ensures { option_map path_read result ≡ path_at bytes.now }
 {
-    let Some((count, all)) = byte(bytes) else {
-        return None;
-    };
-    let Some(rest) = past_names(all, count) else {
-        return None;
-    };
+    let (count, all) = byte(bytes)?;
+    let rest = past_names(all, count)?;
     let (names, rest) = all.split_at(all.len() - rest.len());
-    Some(PathPart { names, rest })
+    Some((Path { names }, rest))
 }
 
-// An act, and what is behind it.
-#[derive(Clone, Copy)]
-pub struct ReadAct<'a> {
-    pub act: Act<'a>,
-    pub rest: &'a [u8],
-}
-
-fn make(bytes: &[u8]) -> Option<ReadAct<'_>>
-    ensures { ActOf make_at bytes.now result }
+// A making without its number in front, and what is behind it.
+fn make(bytes: &[u8]) -> Option<(Act<'_>, &[u8])>
+    ensures { option_map act_read result ≡ make_at bytes.now }
 {
-    let Some(path) = path(bytes) else {
-        return None;
-    };
-    let Some(cut) = value(path.rest) else {
-        return None;
-    };
-    let Some((numbered, rest)) = flag(cut.rest) else {
-        return None;
-    };
-    let Some((session, rest)) = number(rest) else {
-        return None;
-    };
+    let (path, rest) = path(bytes)?;
+    let (value, rest) = value(rest)?;
+    let (numbered, rest) = flag(rest)?;
+    let (session, rest) = number(rest)?;
     let kind = ActKind::Make {
         numbered,
         session: Session(session),
     };
-    Some(ReadAct {
-        act: Act {
-            kind,
-            path: path.names,
-            value: cut.part,
-        },
-        rest,
-    })
+    Some((Act { kind, path, value }, rest))
 }
 
-fn put(bytes: &[u8]) -> Option<ReadAct<'_>>
-    ensures { ActOf put_at bytes.now result }
+// A putting without its number in front, and what is behind it.
+fn put(bytes: &[u8]) -> Option<(Act<'_>, &[u8])>
+    ensures { option_map act_read result ≡ put_at bytes.now }
 {
-    let Some(path) = path(bytes) else {
-        return None;
-    };
-    let Some(cut) = value(path.rest) else {
-        return None;
-    };
-    let Some((version, rest)) = expected(cut.rest) else {
-        return None;
-    };
-    Some(ReadAct {
-        act: Act {
-            kind: ActKind::Put(version),
-            path: path.names,
-            value: cut.part,
-        },
-        rest,
-    })
+    let (path, rest) = path(bytes)?;
+    let (value, rest) = value(rest)?;
+    let (version, rest) = expected(rest)?;
+    let kind = ActKind::Put(version);
+    Some((Act { kind, path, value }, rest))
 }
 
-fn drop(bytes: &[u8]) -> Option<ReadAct<'_>>
-    ensures { ActOf drop_act_at bytes.now result }
+// A path and which version is expected there, as an act without a value has them; and what is behind both.
+fn expecting(bytes: &[u8]) -> Option<(Path<'_>, Expected, &[u8])>
+    ensures { Expecting bytes.now result }
 {
-    let Some(path) = path(bytes) else {
-        return None;
-    };
-    let Some((version, rest)) = expected(path.rest) else {
-        return None;
-    };
-    Some(ReadAct {
-        act: Act {
-            kind: ActKind::Drop(version),
-            path: path.names,
-            value: &[],
-        },
-        rest,
-    })
-}
-
-fn check(bytes: &[u8]) -> Option<ReadAct<'_>>
-    ensures { ActOf check_at bytes.now result }
-{
-    let Some(path) = path(bytes) else {
-        return None;
-    };
-    let Some((version, rest)) = expected(path.rest) else {
-        return None;
-    };
-    Some(ReadAct {
-        act: Act {
-            kind: ActKind::Check(version),
-            path: path.names,
-            value: &[],
-        },
-        rest,
-    })
+    let (path, rest) = path(bytes)?;
+    let (version, rest) = expected(rest)?;
+    Some((path, version, rest))
 }
 
 // An act, by its number in front.
-pub fn read_act(bytes: &[u8]) -> Option<ReadAct<'_>>
-    ensures { ActOf act_at bytes.now result }
+pub fn read_act(bytes: &[u8]) -> Option<(Act<'_>, &[u8])>
+    ensures { option_map act_read result ≡ act_at bytes.now }
 {
-    let Some((kind, rest)) = byte(bytes) else {
-        return None;
-    };
-    match kind {
+    let (number, rest) = byte(bytes)?;
+    match number {
         1 => make(rest),
         2 => put(rest),
-        3 => drop(rest),
-        4 => check(rest),
+        3 | 4 => {
+            let (path, version, rest) = expecting(rest)?;
+            let kind = if number == 3 {
+                ActKind::Drop(version)
+            } else {
+                ActKind::Check(version)
+            };
+            let act = Act {
+                kind,
+                path,
+                value: &[],
+            };
+            Some((act, rest))
+        }
         _ => None,
     }
 }
@@ -252,81 +179,48 @@ fn past_acts(bytes: &[u8], count: u8) -> Option<&[u8]>
 {
     let mut rest = bytes;
     for _ in 0..count {
-        let Some(act) = read_act(rest) else {
-            return None;
-        };
-        rest = act.rest;
+        (_, rest) = read_act(rest)?;
     }
     Some(rest)
 }
 
-fn whole_path(bytes: &[u8]) -> Option<&[u8]>
-    ensures { WholePath bytes.now result }
+// A path that is all of the bytes.
+fn whole_path(bytes: &[u8]) -> Option<Path<'_>>
+    ensures { option_map path_now result ≡ whole_path bytes.now }
 {
-    let Some(path) = path(bytes) else {
-        return None;
-    };
-    if !path.rest.is_empty() {
-        return None;
-    }
-    Some(path.names)
+    let (path, rest) = path(bytes)?;
+    wholly(path, rest)
 }
 
+// A call of several acts that is all of the bytes.
 fn acts(bytes: &[u8]) -> Option<Call<'_>>
-    ensures { CallBy do_at bytes.now result }
+    ensures { option_map call_of result ≡ do_at bytes.now }
 {
-    let Some((count, acts)) = byte(bytes) else {
-        return None;
-    };
-    let Some(rest) = past_acts(acts, count) else {
-        return None;
-    };
-    if !rest.is_empty() {
-        return None;
-    }
-    Some(Call::Do(count, acts))
+    let (count, bytes) = byte(bytes)?;
+    let rest = past_acts(bytes, count)?;
+    wholly((), rest)?;
+    Some(Call::Do(Acts { count, bytes }))
 }
 
+// The end of a session that is all of the bytes.
 fn end(bytes: &[u8]) -> Option<Call<'_>>
-    ensures { CallBy end_at bytes.now result }
+    ensures { option_map call_of result ≡ end_at bytes.now }
 {
-    let Some((session, rest)) = number(bytes) else {
-        return None;
-    };
-    if !rest.is_empty() {
-        return None;
-    }
+    let (session, rest) = number(bytes)?;
+    let session = wholly(session, rest)?;
     Some(Call::End(Session(session)))
 }
 
 // A call: all of the bytes are one, or it is none.
 pub fn read_call(bytes: &[u8]) -> Option<Call<'_>>
-    ensures { CallBy decode_call bytes.now result }
+    ensures { option_map call_of result ≡ decode_call bytes.now }
 {
-    let Some((kind, rest)) = byte(bytes) else {
-        return None;
-    };
+    let (kind, rest) = byte(bytes)?;
     match kind {
         1 => acts(rest),
-        2 => {
-            let Some(path) = whole_path(rest) else {
-                return None;
-            };
-            Some(Call::Look(path))
-        }
-        3 => {
-            let Some(path) = whole_path(rest) else {
-                return None;
-            };
-            Some(Call::Kids(path))
-        }
-        4 => {
-            if rest.is_empty() {
-                Some(Call::Open)
-            } else {
-                None
-            }
-        }
+        2 => Some(Call::Look(whole_path(rest)?)),
+        3 => Some(Call::Kids(whole_path(rest)?)),
+        4 => wholly(Call::Open, rest),
         5 => end(rest),
         _ => None,
     }

@@ -1,19 +1,29 @@
 // Which bytes are let through to the tree.
-ghost use Rattle.std.specs.Prelude.{◌≡◌, [], Some};
+ghost use Rattle.std.specs.Prelude.{◌≡◌};
 ghost use Rattle.model.specs.Tree.{one};
-ghost use Rattle.calls.specs.Reading.{CallSpells, acts_in, past};
-ghost use Rattle.calls.specs.Screening.{plain_kind, core_call, front_not_built, screened, screen_of, ScreenSpells};
-ghost use Rattle.calls.specs.Format.{act_at};
+ghost use Rattle.calls.specs.Reading.{acts_in};
+ghost use Rattle.calls.specs.Screening.{plain_kind, core_call, front_not_built, screened, screen_of, number_of};
 
 use crate::reading::{read_act, read_call};
-use crate::types::{ActKind, Call};
+use crate::types::{ActKind, Acts, Call};
 
-// Bytes that a client sent as a call: of a kind that isn't built yet (refused by 12), no call (refused by 1), or a call that the tree answers.
-#[derive(Clone, Copy)]
-pub enum Screened<'a> {
+// Why bytes that a client sent as a call are not let in: they are of a kind that isn't built yet, or no call.
+#[derive(Clone, Copy, PartialEq, Eq)]
+pub enum NotLetIn {
     NotBuilt,
     NoCall,
-    LetIn(Call<'a>),
+}
+
+impl NotLetIn {
+    // The number that is said to it.
+    pub fn number(self) -> u8
+        ensures { result ≡ number_of self }
+    {
+        match self {
+            NotLetIn::NotBuilt => 12,
+            NotLetIn::NoCall => 1,
+        }
+    }
 }
 
 // Does the front of the bytes tell that this isn't built.
@@ -38,44 +48,44 @@ fn is_plain(kind: ActKind) -> bool
 }
 
 // Is this one such act.
-fn is_one(count: u8, acts: &[u8]) -> bool
-    requires { past act_at count acts.now ≡ Some [] }
-    ensures { result ≡ one (acts_in count acts.now) }
+fn is_one(acts: Acts<'_>) -> bool
+    ensures { result ≡ one (acts_in acts.entry.count acts.entry.bytes.now) }
 {
-    if count != 1 {
+    if acts.count != 1 {
         return false;
     }
-    let Some(read) = read_act(acts) else {
+    // kept: where bytes are no call, the reader's answer is taken apart by let .. else
+    let Some((act, _)) = read_act(acts.bytes) else {
         return false;
     };
-    is_plain(read.act.kind)
+    is_plain(act.kind)
 }
 
+// Is this a call that the tree answers.
 fn is_core(call: Call<'_>) -> bool
-    requires { CallSpells call }
     ensures { result ≡ core_call call.entry }
 {
     match call {
-        Call::Do(count, acts) => is_one(count, acts),
+        Call::Do(acts) => is_one(acts),
         Call::Look(_) | Call::Kids(_) => true,
         Call::Open | Call::End(_) => false,
     }
 }
 
-// What isn't built is told first, then what is no call.
-pub fn screen(bytes: &[u8]) -> Screened<'_>
-    ensures screened { screen_of result ≡ screened bytes.now }
-    ensures spells { ScreenSpells result }
+// The call that the tree answers, if the bytes are one. What isn't built is told first, then what is no call.
+pub fn screen(bytes: &[u8]) -> Result<Call<'_>, NotLetIn>
+    ensures { screen_of result ≡ screened bytes.now }
 {
     if front_not_built(bytes) {
-        return Screened::NotBuilt;
+        return Err(NotLetIn::NotBuilt);
     }
+    // kept: where bytes are no call, the reader's answer is taken apart by let .. else
     let Some(call) = read_call(bytes) else {
-        return Screened::NoCall;
+        return Err(NotLetIn::NoCall);
     };
     if is_core(call) {
-        Screened::LetIn(call)
+        Ok(call)
     } else {
-        Screened::NotBuilt
+        Err(NotLetIn::NotBuilt)
     }
 }

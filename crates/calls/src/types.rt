@@ -1,8 +1,13 @@
 // Calls, with their paths, values and acts as parts of the bytes that they were read from.
+ghost use Rattle.std.specs.Prelude.{◌≡◌, [], Some};
+ghost use Rattle.calls.specs.Format.{act_at, past};
+
 use lent_bytes::counts::{Session, Version};
+use lent_bytes::paths::Path;
 
 // Which version of an entry an act is for.
-#[derive(Clone, Copy)]
+// kept: a rule of the repository: what is expected is an enum of its own inside an act's kind.
+#[derive(Clone, Copy, PartialEq, Eq)]
 pub enum Expected {
     Any,
     Exactly(Version),
@@ -22,16 +27,24 @@ pub enum ActKind {
 #[derive(Clone, Copy)]
 pub struct Act<'a> {
     pub kind: ActKind,
-    pub path: &'a [u8],
+    pub path: Path<'a>,
     pub value: &'a [u8],
 }
 
-// A call. `Do` has the bytes of so many acts, and nothing behind them.
+// The bytes of so many acts, and nothing behind them.
+#[derive(Clone, Copy)]
+pub struct Acts<'a> {
+    pub count: u8,
+    pub bytes: &'a [u8],
+    ghost whole: { past act_at count bytes.now ≡ Some [] },
+}
+
+// A call.
 #[derive(Clone, Copy)]
 pub enum Call<'a> {
-    Do(u8, &'a [u8]),
-    Look(&'a [u8]),
-    Kids(&'a [u8]),
+    Do(Acts<'a>),
+    Look(Path<'a>),
+    Kids(Path<'a>),
     Open,
     End(Session),
 }

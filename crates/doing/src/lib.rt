@@ -3,7 +3,6 @@
 
 ghost use Rattle.std.specs.Prelude.{◌≡◌, false, [], ◌∷◌, IfOk, nat_lt};
 ghost use Rattle.model.specs.Tree.{acts, does, Do};
-ghost use Rattle.lent_bytes.specs.Paths.{Spells};
 ghost use Rattle.calls.specs.Reading.{act_of};
 ghost use Rattle.cells.specs.Layout.{Holds, state_of};
 ghost use Rattle.cells.specs.Drafts.{drafting, Drafts};
@@ -33,7 +32,6 @@ pub fn do_act(
     requires holds { Holds tree.bytes.now tree.places.now }
     requires ready { Ready room (state_of tree.bytes.now tree.places.now) }
     requires suits { Suits room out.old places.old }
-    requires spells { Spells act.path.now }
     requires plain { numbered act.kind ≡ false }
     ensures step { step_of (made_by (act_of act.entry)) result out.new places.new ≡ counting changes.0 (weighed room (state_of tree.entry.bytes.now tree.entry.places.now) (acts (act_of act.entry) (state_of tree.entry.bytes.now tree.entry.places.now))) }
     ensures drafts { IfOk result (λ s. Drafts out.new places.new s) }
@@ -44,16 +42,16 @@ pub fn do_act(
             session,
         } => {
             make(
-                tree, room, act.path, act.value, session, changes, out, places,
+                tree, room, act.path.names, act.value, session, changes, out, places,
             )
         }
         ActKind::Put(expected) => {
             put(
-                tree, room, act.path, act.value, expected, changes, out, places,
+                tree, room, act.path.names, act.value, expected, changes, out, places,
             )
         }
-        ActKind::Drop(expected) => drop(tree, room, act.path, expected, changes, out, places),
-        ActKind::Check(expected) => check(tree, room, act.path, expected, changes, out, places),
+        ActKind::Drop(expected) => drop(tree, room, act.path.names, expected, changes, out, places),
+        ActKind::Check(expected) => check(tree, room, act.path.names, expected, changes, out, places),
     }
 }
 
@@ -77,7 +75,6 @@ pub fn do_one(
     requires fits { Fits room (state_of tree.bytes.now tree.places.now) }
     requires calm { Calm (state_of tree.bytes.now tree.places.now) }
     requires suits { Suits room out.old places.old }
-    requires spells { Spells act.path.now }
     requires plain { numbered act.kind ≡ false }
     ensures answer { out_of (made_by (act_of act.entry)) result out.new places.new (state_of tree.entry.bytes.now tree.entry.places.now) ≡ does room (Do (act_of act.entry ∷ [])) (state_of tree.entry.bytes.now tree.entry.places.now) }
     ensures drafts { IfOk result (λ s. Drafts out.new places.new s) }

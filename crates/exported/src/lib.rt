@@ -11,6 +11,7 @@ use cells::held::Tree;
 use doing::do_one;
 use drafts::writing::start_blank;
 use lent_bytes::counts::Session;
+use lent_bytes::paths::Path;
 use scan::scanning::scan;
 use tree::looking::look;
 
@@ -42,7 +43,7 @@ pub extern "C" fn tree_put<'t, 'c>(
 {
     let act = Act {
         kind: ActKind::Put(Expected::Any),
-        path,
+        path: Path { names: path },
         value,
     };
     match do_one(Tree { bytes, places }, room, act, out, lent) {
@@ -72,6 +73,7 @@ pub extern "C" fn tree_make<'t, 'c>(
         numbered: false,
         session: Session(0),
     };
+    let path = Path { names: path };
     let act = Act { kind, path, value };
     match do_one(Tree { bytes, places }, room, act, out, lent) {
         Ok(size) => size.used,

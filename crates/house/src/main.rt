@@ -3,7 +3,7 @@
 
 use alone::Alone;
 use calls::answers::refused;
-use calls::screening::{Screened, screen};
+use calls::screening::{NotLetIn, screen};
 use std::alloc::{AllocError, Global};
 use std::fmt::Display;
 use std::io::{BufRead, BufReader, Write};
@@ -74,11 +74,11 @@ fn read_arguments(rt: &HostRuntime) -> io::Result<Option<Arguments>> {
 
 // What a call is answered where there are others, while no replica is built in: a refusal, by 1 where the bytes are no call, else by 12.
 fn refuse(heap: Global, number: u64, call: &[u8], out: &mut Vec<u8>) -> Result<(), Refusal> {
-    let reason = match screen(call) {
-        Screened::NoCall => 1,
-        Screened::NotBuilt | Screened::LetIn(_) => 12,
+    let why = match screen(call) {
+        Ok(_) => NotLetIn::NotBuilt,
+        Err(why) => why,
     };
-    let refused = refused(0, reason);
+    let refused = refused(0, why.number());
     match push_answer(heap, out, number, &refused) {
         Ok(()) => Ok(()),
         Err(fault) => Err(Refusal::Frame(fault)),

@@ -1,4 +1,3 @@
 pub mod Numbers
-pub mod Parts
 pub mod Paths
 pub mod Writing

@@ -1,8 +1,7 @@
-// Bytes that are lent: numbers, parts, names and paths, and writing at the end of a buffer.
+// Bytes that are lent: numbers, names and paths, and writing at the end of a buffer.
 #![tactic(auto)]
 
 pub mod counts;
 pub mod numbers;
-pub mod parts;
 pub mod paths;
 pub mod writing;

@@ -7,7 +7,7 @@ ghost use Rattle.rehearse.specs.Played.{or_as, woke_by, after, played};
 use crate::refusals::{forbidden, line_is_wrong, refuse, unfit};
 use crate::scene::Scene;
 use calls::answers::refused;
-use calls::screening::{Screened, screen};
+use calls::screening::{NotLetIn, screen};
 use encoding::push_call as push_bytes;
 use replies::push_answer;
 use script::houses::Houses;
@@ -22,10 +22,11 @@ use words::types::Call;
 
 // A house's answer to a call. Until there is a replica: a refusal, by 1 where the bytes are no call, else by 12.
 fn ask(bytes: &[u8]) -> [u8; 3] {
-    match screen(bytes) {
-        Screened::NoCall => refused(0, 1),
-        Screened::NotBuilt | Screened::LetIn(_) => refused(0, 12),
-    }
+    let why = match screen(bytes) {
+        Ok(_) => NotLetIn::NotBuilt,
+        Err(why) => why,
+    };
+    refused(0, why.number())
 }
 
 // A house hears a letter.

@@ -19,12 +19,12 @@ fn tell_name<'a>(
     let Some((n, rest)) = byte(bytes) else {
         return Ok(None);
     };
-    let Some(name) = part(rest, n as usize) else {
+    let Some((name, rest)) = part(rest, n as usize) else {
         return Ok(None);
     };
     push_text(out, before)?;
-    push_name(out, name.part)?;
-    Ok(Some(name.rest))
+    push_name(out, name)?;
+    Ok(Some(rest))
 }
 
 // So many names, each behind this text.

@@ -55,10 +55,10 @@ pub(crate) fn read_session(bytes: &[u8]) -> Option<u64>
 pub(crate) fn read_entry(bytes: &[u8]) -> Option<Entry<'_>>
     ensures { option_map entry_of result ≡ entry_at bytes.now }
 {
-    let Some(cut) = value(bytes) else {
+    let Some((value, rest)) = value(bytes) else {
         return None;
     };
-    let Some((version, rest)) = number(cut.rest) else {
+    let Some((version, rest)) = number(rest) else {
         return None;
     };
     let Some((made, rest)) = number(rest) else {
@@ -77,7 +77,7 @@ pub(crate) fn read_entry(bytes: &[u8]) -> Option<Entry<'_>>
         return None;
     }
     Some(Entry {
-        value: cut.part,
+        value,
         version,
         made,
         changed,

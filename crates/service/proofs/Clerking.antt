@@ -1,7 +1,8 @@
 -- From what each kind of call is answered to what one clerk answers and leaves. Assumes nothing.
-use Rattle.std.proofs.Common.{◌≡◌, ℕ, ◌*◌, ◌≤◌, Bool, true, false, cond, not, List, [], ◌∷◌, length, IfSome, Some, None, Option, sym, refl, ap, ◌∙◌, subst, arith}
+use Rattle.std.proofs.Common.{◌≡◌, ℕ, ◌*◌, ◌≤◌, Bool, true, false, cond, not, List, [], ◌∷◌, length, IfSome, IfOk, Some, None, Option, Ok, Err, Result, sym, refl, ap, ◌∙◌, subst, arith}
+use Rattle.std.specs.Result.{MatchResult, IsOkAnd, result_ok}
 use Rattle.std.proofs.lemmas.Bool.{not-true, or_parts, not-false}
-use Rattle.model.specs.Tree.{Path, Entry, State, Act, Do, Look, Kids, Reply, No, does, path_ok, value_ok, weight_of}
+use Rattle.model.specs.Tree.{Path, Entry, State, Act, Do, Look, Kids, Reply, No, Out, does, path_ok, value_ok, weight_of}
 use Rattle.calls.specs.declared.types.ActKind.{ActKind}
 use Rattle.calls.specs.declared.types.ActKind.TheVariants as kind
 use Rattle.calls.specs.Reading.{act_from}
@@ -10,10 +11,13 @@ use Rattle.cells.specs.declared.draft.Size.{Size}
 use Rattle.cells.specs.Drafts.{Drafts, drafting}
 use Rattle.cells.specs.Fits.{Fits}
 use Rattle.service.specs.declared.clerk.Answered.{Answered}
-use Rattle.service.specs.declared.writing.Written.{Written}
-use Rattle.service.specs.Service.{reply_to, next_to, at_once, act_in_range, say_to}
-use Rattle.service.specs.Answering.{Says, left_by, Wrote, Answers}
-use Rattle.service.proofs.Lawfulness.{at_once_lem, kept_at, Core, core_screened}
+use Rattle.tree.specs.declared.refusal.Refusal.{Refusal}
+use Rattle.tree.specs.Answers.{made_by, out_of}
+use Rattle.service.specs.declared.asking.Asked.{Asked}
+use Rattle.service.specs.Asking.{AskedAs}
+use Rattle.service.specs.Service.{Outcome, reply_to, next_to, keep_to, outcome_of, at_once, act_in_range, say_to}
+use Rattle.service.specs.Answering.{Says, left_by, kept_of, next_of, leaves, Wrote, Answers}
+use Rattle.service.proofs.Lawfulness.{at_once_lem, refusal_back, kept_at, Core, core_screened}
 
 -- entries weigh more than their number tells
 pub weight_count : (es : List Entry) → 1280 * length es ≤ weight_of es
@@ -35,6 +39,25 @@ none_in_range false r e = absurd (let z : ◌≡◌ {A = ℕ} 0 1 = cc in omega 
 pub asked_range : (a : Act) → at_once (LetIn (Do (a ∷ []))) ≡ None → act_in_range a ≡ true
 asked_range a e = none_in_range (act_in_range a) (No 0 1) e
 
+-- what a call asks, by a case of it
+pub asked_is : (sc : Screen) (x y : Asked) → AskedAs sc (Ok x) → x ≡ y → AskedAs sc (Ok y)
+asked_is sc x y a e = subst (λ (z : Asked). AskedAs sc (Ok z)) e a
+
+-- what is kept of a write, and the tree that it wrote, as the code takes them
+pub kept_by : (w : Result Size Refusal) (k : Outcome) (P : Size → Unit {0} → Type 0) → MatchResult w (λ z. IsOkAnd k (P z)) (λ e. k ≡ Err e) → k ≡ kept_of w
+kept_by (Ok z) (Ok u) P h = refl
+kept_by (Ok z) (Err e) P h = absurd h
+kept_by (Err k) o P h = h
+
+pub next_by : (w : Result Size Refusal) (o : Option Size) → o ≡ result_ok w → o ≡ next_of w
+next_by (Ok z) o e = e
+next_by (Err k) o e = e
+
+-- what a call of one act did is what the service keeps of it and leaves
+pub wrote : (room : ℕ) (a : Act) (s : State) (w : Result Size Refusal) (out ps : List ℕ) → out_of (made_by a) w out ps s ≡ does room (Do (a ∷ [])) s → IfOk w (λ z. Drafts out ps z) → IfOk w (λ z. Fits room (drafting out ps z)) → Wrote room a s w out ps
+wrote room a s (Ok z) out ps e d f = record { kept = ap (λ (o : Out). outcome_of o.reply) e; state = ap (λ (o : Out). o.state) e; drafts = d; fits = f }
+wrote room a s (Err k) out ps e d f = record { kept = refusal_back k ∙ ap (λ (o : Out). outcome_of o.reply) e; state = ap (λ (o : Out). o.state) e; drafts = tt; fits = tt }
+
 module _ (room : ℕ) (call : List ℕ) (s : State) (out ps reply : List ℕ) where
   -- what was said and left, by what the call is
   pub answers_as : (sc : Screen) → screened call ≡ sc → (a : Answered) → Says (reply_to room sc s) reply a.reply → left_by a.next out ps s ≡ next_to room sc s → IfSome a.next (λ z. Drafts out ps z × Fits room (drafting out ps z)) → Answers room call s a out ps reply
@@ -55,11 +78,11 @@ module _ (room : ℕ) (call : List ℕ) (s : State) (out ps reply : List ℕ) wh
   unfolding does
   answers_kids p n is said = answers_as (LetIn (Kids p)) is (record { reply = n; next = None }) said refl tt
 
-  pub answers_write : (a : Act) (w : Written) (n : ℕ) → screened call ≡ LetIn (Do (a ∷ [])) → Wrote room a s w out ps → Says (say_to (LetIn (Do (a ∷ []))) w.outcome) reply n → Answers room call s (record { reply = n; next = w.next }) out ps reply
+  pub answers_write : (a : Act) (w : Result Size Refusal) (n : ℕ) → screened call ≡ LetIn (Do (a ∷ [])) → Wrote room a s w out ps → Says (say_to (LetIn (Do (a ∷ []))) (kept_of w)) reply n → Answers room call s (record { reply = n; next = next_of w }) out ps reply
   answers_write a w n is wrote said =
       let sc = LetIn (Do (a ∷ [])) in
-      let told : say_to sc w.outcome ≡ reply_to room sc s = ap (say_to sc) wrote.kept ∙ kept_at room sc s (subst Core is (core_screened call)) refl in
-      answers_as sc is (record { reply = n; next = w.next }) (subst (λ (r : Reply). Says r reply n) told said) wrote.state (both w.next wrote.drafts wrote.fits)
+      let told : say_to sc (kept_of w) ≡ reply_to room sc s = ap (say_to sc) wrote.kept ∙ kept_at room sc s (subst Core is (core_screened call)) refl in
+      answers_as sc is (record { reply = n; next = next_of w }) (subst (λ (r : Reply). Says r reply n) told said) wrote.state (both (next_of w) wrote.drafts wrote.fits)
     where
       both : (o : Option Size) → IfSome o (λ z. Drafts out ps z) → IfSome o (λ z. Fits room (drafting out ps z)) → IfSome o (λ z. Drafts out ps z × Fits room (drafting out ps z))
       both None u v = tt

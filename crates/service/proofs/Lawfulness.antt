@@ -1,5 +1,5 @@
 -- The tree is a service that replicas can keep: what is kept of a write says its answer, looking leaves the tree, what is answered at once does not depend on the tree, and no answer is busy. Assumes nothing.
-use Rattle.std.proofs.Common.{◌≡◌, ℕ, ◌≤◌, Bool, true, false, cond, not, ◌||◌, eqb, ltb, List, [], ◌∷◌, Some, None, Option, sym, refl, ap, ◌∙◌, subst, inl, inr, arith}
+use Rattle.std.proofs.Common.{◌≡◌, ℕ, ◌≤◌, Bool, true, false, cond, not, ◌||◌, eqb, ltb, List, [], ◌∷◌, Some, None, Option, sym, refl, ap, ◌∙◌, subst, inl, inr, arith, Ok, Err, Result}
 use Rattle.std.proofs.lemmas.Bool.{cond_both, cond-true, cond-false, false≢true, eqb-true}
 use Rattle.std.proofs.lemmas.Bool.Decides.{nat_tests}
 use Rattle.std.specs.Option.{option_map}
@@ -9,9 +9,7 @@ use Rattle.calls.specs.Screening.{Screen, NotBuilt, NoCall, LetIn, screened, dec
 use Rattle.tree.specs.Answers.{reason}
 use Rattle.tree.specs.declared.refusal.Refusal.{Refusal}
 use Rattle.tree.specs.declared.refusal.Refusal.TheVariants.{OutOfRange, NotThere, AlreadyThere, OtherVersion, HasKids, NoSession, UnderSession, UsedUp, Full}
-use Rattle.service.specs.declared.outcome.Outcome.{Outcome}
-use Rattle.service.specs.declared.outcome.Outcome.TheVariants as outcome
-use Rattle.service.specs.Service.{reply_to, next_to, act_in_range, in_range, at_once, looks, refusal_of, outcome_of, keep_to, say_to, screened_call, lines, calls}
+use Rattle.service.specs.Service.{Outcome, reply_to, next_to, act_in_range, in_range, at_once, looks, refusal_of, outcome_of, keep_to, say_to, screened_call, lines, calls}
 use Rattle.service.proofs.Shapes.{one_shape, Shape}
 use Rattle.agreement.specs.Content.{Lawful}
 
@@ -103,8 +101,8 @@ at_once_lem room (LetIn c) s r e =
 says_at : (sc : Screen) (k : Outcome) → say_to sc k ≡ No 0 11 → ⊥
 says_at NotBuilt k e = let z : ◌≡◌ {A = ℕ} 12 11 = cc in omega arith
 says_at NoCall k e = let z : ◌≡◌ {A = ℕ} 1 11 = cc in omega arith
-says_at (LetIn c) outcome.Done e = let z : ◌≡◌ {A = ℕ} 0 1 = cc in omega arith
-says_at (LetIn c) (outcome.Refused k) e = let z : reason k ≡ 11 = cc in not_eleven k z
+says_at (LetIn c) (Ok u) e = let z : ◌≡◌ {A = ℕ} 0 1 = cc in omega arith
+says_at (LetIn c) (Err k) e = let z : reason k ≡ 11 = cc in not_eleven k z
   where
     not_eleven : (k : Refusal) → reason k ≡ 11 → ⊥
     not_eleven OutOfRange h = omega arith
@@ -185,7 +183,7 @@ calls_lawful room = record {
 }
 
 -- a refusal is told by its number
-pub refusal_back : (k : Refusal) → outcome.Refused k ≡ outcome_of (No 0 (reason k))
+pub refusal_back : (k : Refusal) → Err k ≡ outcome_of (No 0 (reason k))
 refusal_back OutOfRange = refl
 refusal_back NotThere = refl
 refusal_back AlreadyThere = refl

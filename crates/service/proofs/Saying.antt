@@ -1,11 +1,12 @@
 -- Bytes written from the front of a buffer on are the answer that they spell. Assumes nothing.
 use Rattle.std.proofs.Common.{◌≡◌, ℕ, ◌+◌, ◌-◌, ◌<◌, ◌≤◌, List, [], ◌∷◌, ◌++◌, length, get_or, take, drop, sym, refl, ap, ◌∙◌, subst, append_assoc, arith, length-append, length-drop}
-use Rattle.std.proofs.lemmas.List.{drop_more, drop-drop, drop_at, take_at, take-append-drop, length-take-le}
+use Rattle.std.proofs.lemmas.List.{drop_at, take_at, take_all, take-append-drop, length-take-le}
 use Rattle.model.specs.Tree.{Path, Reply, Names}
 use borrow.Rule.Slice.PartMut.{post_of, put_mid}
 use Rattle.lent_bytes.specs.Numbers.{be4}
 use Rattle.lent_bytes.proofs.Rounds.{length_be4}
 use Rattle.lent_bytes.specs.Writing.{Added}
+use Rattle.lent_bytes.proofs.PathBytes.{path_is, spells_is}
 use Rattle.lent_bytes.specs.Paths.{path_of, path_bytes, Spells}
 use Rattle.calls.specs.Format.{encode_reply}
 use Rattle.service.specs.Answering.{Says}
@@ -13,41 +14,48 @@ use Rattle.service.specs.Answering.{Says}
 pub said : (r : Reply) (was bytes now : List ℕ) (to : ℕ) → Added 0 was bytes to now → length bytes ≤ length was → bytes ≡ encode_reply r → Says r now to
 said r was bytes now to a h e = record { inside = omega (arith, a.ends, a.long); bytes = a.front ∙ e }
 
--- COUNTING NAMES: what is left from a place on spells what is left of the path
-pub record Counted (path : List ℕ) (at count : ℕ) : Type 0 where
-  pub left : Path
-  pub spells : drop at path ≡ path_bytes left
-  pub many : count + length left ≡ length (path_of path)
-  pub inside : at ≤ length path
+-- COUNTING NAMES: what is left spells what is left of the path
+pub record Counted (path left : List ℕ) (count : ℕ) : Type 0 where
+  pub spells : Spells left
+  pub many : count + length (path_of left) ≡ length (path_of path)
 
-pub count_first : (path : List ℕ) → Spells path → Counted path 0 0
-count_first path sp = record { left = path_of path; spells = sym sp; many = omega arith; inside = omega arith }
+pub count_first : (path : List ℕ) → Spells path → Counted path path 0
+count_first path sp = record { spells = sp; many = omega arith }
 
-pub count_next : (path : List ℕ) (at count : ℕ) → Counted path at count → at < length path → (at + (1 + get_or path at 0) ≤ length path) × (count < length (path_of path)) × Counted path (at + (1 + get_or path at 0)) (count + 1)
-unfolding path_bytes
-count_next path at count c l = go c.left refl
-  where
-    go : (p : Path) → c.left ≡ p → (at + (1 + get_or path at 0) ≤ length path) × (count < length (path_of path)) × Counted path (at + (1 + get_or path at 0)) (count + 1)
-    go [] e = absurd (omega (arith, ap length c.spells, length-drop at path, ap (λ (p : Path). length (path_bytes p)) e))
-    go (n ∷ ns) e =
-        let spelled : drop at path ≡ length n ∷ (n ++ path_bytes ns) = c.spells ∙ ap path_bytes e in
-        let first = drop_more path at 0 l in
-        let k : get_or path at 0 ≡ length n = cc in
-        let rest : drop (at + 1) path ≡ n ++ path_bytes ns = cc in
-        let long = ap length rest ∙ length-append n (path_bytes ns) in
-        let size = length-drop (at + 1) path in
-        let further : drop (at + (1 + get_or path at 0)) path ≡ path_bytes ns =
-        ap (λ (j : ℕ). drop j path) (let z : at + (1 + get_or path at 0) ≡ at + 1 + length n = omega arith in z) ∙ sym (drop-drop (length n) (at + 1) path) ∙ ap (drop (length n)) rest ∙ drop_at n (path_bytes ns) (length n) refl in
-        let names = ap length e in
-        (omega arith, omega (arith, c.many), record { left = ns; spells = further; many = omega (arith, c.many); inside = omega arith })
+module _ (path left : List ℕ) (count : ℕ) (c : Counted path left count) where
+  pub count_next : (n : ℕ) (rest : List ℕ) → left ≡ n ∷ rest → (n ≤ length rest) × (count < length (path_of path)) × Counted path (drop n rest) (count + 1)
+  unfolding path_bytes
+  count_next n rest is = go (path_of left) refl
+    where
+      go : (p : Path) → path_of left ≡ p → (n ≤ length rest) × (count < length (path_of path)) × Counted path (drop n rest) (count + 1)
+      go [] e = absurd (let z = ap length (sym c.spells ∙ ap path_bytes e) in omega (arith, ap length is))
+      go (m ∷ ms) e =
+          let both : length m ∷ (m ++ path_bytes ms) ≡ n ∷ rest = sym (ap path_bytes e) ∙ c.spells ∙ is in
+          let k : length m ≡ n = ap (λ (l : List ℕ). get_or l 0 0) both in
+          let behind : m ++ path_bytes ms ≡ rest = ap (drop 1) both in
+          let left' : drop n rest ≡ path_bytes ms = ap (drop n) (sym behind) ∙ drop_at m (path_bytes ms) n k in
+          let names = ap length e in
+          (
+            omega (arith, ap length behind, length-append m (path_bytes ms)),
+            omega (arith, c.many),
+            record { spells = spells_is (drop n rest) ms left'; many = omega (arith, c.many, ap length (path_is (drop n rest) ms left')) },
+          )
 
-pub count_end : (path : List ℕ) (at count : ℕ) → Counted path at count → length path ≤ at → count ≡ length (path_of path)
-unfolding path_bytes
-count_end path at count c l = go c.left refl
-  where
-    go : (p : Path) → c.left ≡ p → count ≡ length (path_of path)
-    go [] e = omega (arith, c.many, ap length e)
-    go (n ∷ ns) e = absurd (omega (arith, ap length c.spells, length-drop at path, ap (λ (p : Path). length (path_bytes p)) e, length-append n (path_bytes ns)))
+  pub count_end : left ≡ [] → count ≡ length (path_of path)
+  unfolding path_bytes
+  count_end is = go (path_of left) refl
+    where
+      go : (p : Path) → path_of left ≡ p → count ≡ length (path_of path)
+      go [] e = omega (arith, c.many, ap length e)
+      go (m ∷ ms) e = absurd (let z = ap length (sym (ap path_bytes e) ∙ c.spells ∙ is) in omega arith)
+
+-- what is left as the code cuts it, and where nothing is left
+pub rest_counted : (path rest : List ℕ) (n count : ℕ) → Counted path (drop n rest) count → Counted path (take (length rest - n) (drop n rest)) count
+rest_counted path rest n count c = subst (λ (l : List ℕ). Counted path l count) (sym (take_all (length rest - n) (drop n rest) (omega (arith, length-drop n rest)))) c
+
+pub none_left : (left : List ℕ) → length left ≡ 0 → left ≡ []
+none_left [] e = refl
+none_left (n ∷ ns) e = absurd (omega arith)
 
 pub said_to : (r : Reply) (was bytes now : List ℕ) (to : ℕ) → Added 0 was bytes to now → to ≤ length was → bytes ≡ encode_reply r → Says r now to
 said_to r was bytes now to a h e = record { inside = omega (arith, a.long); bytes = a.front ∙ e }

@@ -1,6 +1,6 @@
 -- The tree as a service that replicas keep together: what is answered at once, what only looks, what is kept of a write, and what is said from that; over calls, and over calls as bytes.
 -- Assumes nothing.
-use Rattle.std.specs.Prelude.{ℕ, Bool, true, false, cond, not, ◌&&◌, ◌||◌, List, [], ◌∷◌, length, Some, None, Option, ◌==◌, nat_lt}
+use Rattle.std.specs.Prelude.{ℕ, Bool, true, false, cond, not, ◌&&◌, ◌||◌, List, [], ◌∷◌, length, Some, None, Option, ◌==◌, nat_lt, Ok, Err, Result}
 use Rattle.std.specs.Option.{option_map}
 use Rattle.model.specs.Tree.{Path, State, blank, none, last_name, path_ok, value_ok, Act, Make, Put, Drop, Check, Call, Do, Look, Kids, Open, End, Reply, No, Done, Entry', Names, Session, does, core}
 use Rattle.calls.specs.Format.{encode_reply}
@@ -8,8 +8,6 @@ use Rattle.calls.specs.Screening.{Screen, NotBuilt, NoCall, LetIn, screened}
 use Rattle.tree.specs.declared.refusal.Refusal.{Refusal}
 use Rattle.tree.specs.declared.refusal.Refusal.TheVariants.{OutOfRange, NotThere, AlreadyThere, OtherVersion, HasKids, NoSession, UnderSession, UsedUp, Full}
 use Rattle.tree.specs.Answers.{reason, made_by}
-use Rattle.service.specs.declared.outcome.Outcome.{Outcome}
-use Rattle.service.specs.declared.outcome.Outcome.TheVariants as outcome
 use Rattle.promise.specs.Promise.{tree}
 use Rattle.agreement.specs.Content.{Service}
 
@@ -60,12 +58,16 @@ abbrev pub refusal_of : ℕ → Refusal
 refusal_of k =
     cond (k == 1) OutOfRange (cond (k == 2) NotThere (cond (k == 3) AlreadyThere (cond (k == 4) OtherVersion (cond (k == 5) HasKids (cond (k == 6) NoSession (cond (k == 7) UnderSession (cond (k == 8) UsedUp Full)))))))
 
+-- what is kept of a write: a refusal, or that it was done
+abbrev pub Outcome : Type 0
+Outcome = Result (Unit {0}) Refusal
+
 abbrev pub outcome_of : Reply → Outcome
-outcome_of (No n k) = outcome.Refused (refusal_of k)
-outcome_of (Done ps) = outcome.Done
-outcome_of (Entry' v a b c d e) = outcome.Done
-outcome_of (Names ns) = outcome.Done
-outcome_of (Session k) = outcome.Done
+outcome_of (No n k) = Err (refusal_of k)
+outcome_of (Done ps) = Ok tt
+outcome_of (Entry' v a b c d e) = Ok tt
+outcome_of (Names ns) = Ok tt
+outcome_of (Session k) = Ok tt
 
 abbrev pub keep_to : ℕ → Screen → State → Outcome
 keep_to room sc s = outcome_of (reply_to room sc s)
@@ -82,8 +84,8 @@ done_by (End k) = []
 abbrev pub say_to : Screen → Outcome → Reply
 say_to NotBuilt k = No 0 12
 say_to NoCall k = No 0 1
-say_to (LetIn c) (outcome.Refused k) = No 0 (reason k)
-say_to (LetIn c) outcome.Done = Done (done_by c)
+say_to (LetIn c) (Err k) = No 0 (reason k)
+say_to (LetIn c) (Ok u) = Done (done_by c)
 
 -- one more call may be done: no count of the tree is near the end of 64 bits
 abbrev pub is_calm : State → Bool

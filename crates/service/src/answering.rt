@@ -1,9 +1,8 @@
 // Answers as bytes.
 ghost use Rattle.std.specs.Prelude.{◌≡◌, ℕ, ◌+◌, ◌-◌, ◌*◌, ◌<◌, ◌≤◌, true, [], ◌∷◌, length};
 ghost use Rattle.model.specs.Tree.{No, Done, Entry', Do, Look, Kids, does, path_ok};
-ghost use Rattle.lent_bytes.specs.Paths.{path_of, Spells};
 ghost use Rattle.cells.specs.Layout.{Holds, state_of};
-ghost use Rattle.calls.specs.Reading.{act_of};
+ghost use Rattle.calls.specs.Reading.{act_of, path_now};
 ghost use Rattle.calls.specs.Screening.{LetIn};
 ghost use Rattle.service.specs.Service.{say_to};
 ghost use Rattle.service.specs.Answering.{Says};
@@ -11,6 +10,7 @@ ghost use Rattle.service.specs.Answering.{Says};
 use crate::outcome::Outcome;
 use calls::types::{Act, ActKind};
 use cells::held::Tree;
+use lent_bytes::paths::Path;
 use lent_bytes::writing::{append_bytes, append_u32, append_u64};
 use tree::looking::{Seen, kids, look};
 
@@ -31,29 +31,27 @@ fn say_done(out: &mut [u8]) -> usize
 }
 
 // How many names a path has.
-fn count_names(path: &[u8]) -> u8
-    requires spells { Spells path.now }
-    requires few { length (path_of path.now) < 256 }
-    ensures { result ≡ length (path_of path.now) }
+fn count_names(path: Path) -> u8
+    requires { length (path_now path) < 256 }
+    ensures { result ≡ length (path_now path.entry) }
 {
-    let mut at = 0;
+    let mut names = path.names;
     let mut count = 0u8;
-    while at < path.len() {
-        at += 1 + path[at] as usize;
+    while let Some((n, rest)) = names.split_first() {
+        names = &rest[*n as usize..];
         count += 1;
     }
     count
 }
 
 // The answer to a making that was done.
-fn say_made(path: &[u8], out: &mut [u8]) -> usize
-    requires spells { Spells path.now }
-    requires few { length (path_of path.now) < 256 }
-    requires room { 3 + length path.now ≤ length out.old }
-    ensures { Says (Done (path_of path.now ∷ [])) out.new result }
+fn say_made(path: Path, out: &mut [u8]) -> usize
+    requires few { length (path_now path) < 256 }
+    requires room { 3 + length path.names.now ≤ length out.old }
+    ensures { Says (Done (path_now path.entry ∷ [])) out.new result }
 {
     let a = append_bytes(out, 0, &[1, 1, count_names(path)]);
-    append_bytes(out, a, path)
+    append_bytes(out, a, path.names)
 }
 
 // The answer to a look at an entry.
@@ -73,14 +71,13 @@ fn say_entry(seen: Seen, out: &mut [u8]) -> usize
 }
 
 // The answer to a call for the names under a path.
-pub fn say_kids(tree: Tree, path: &[u8], out: &mut [u8]) -> usize
+pub fn say_kids(tree: Tree, path: Path, out: &mut [u8]) -> usize
     requires holds { Holds tree.bytes.now tree.places.now }
-    requires spells { Spells path.now }
     requires room { 5 + 65 * (length tree.places.now - 1) ≤ length out.old }
     requires small { length out.old < 4294967296 }
-    ensures { (room : ℕ) → Says (does room (Kids (path_of path.now)) (state_of tree.entry.bytes.now tree.entry.places.now)).reply out.new result }
+    ensures { (room : ℕ) → Says (does room (Kids (path_now path.entry)) (state_of tree.entry.bytes.now tree.entry.places.now)).reply out.new result }
 {
-    let listed = match kids(tree, path, &mut out[5..]) {
+    let listed = match kids(tree, path.names, &mut out[5..]) {
         Err(refusal) => return say_refused(refusal.number(), out),
         Ok(listed) => listed,
     };
@@ -90,13 +87,12 @@ pub fn say_kids(tree: Tree, path: &[u8], out: &mut [u8]) -> usize
 }
 
 // The answer to a look at a path.
-pub fn say_look(tree: Tree, path: &[u8], out: &mut [u8]) -> usize
+pub fn say_look(tree: Tree, path: Path, out: &mut [u8]) -> usize
     requires holds { Holds tree.bytes.now tree.places.now }
-    requires spells { Spells path.now }
     requires room { 65581 ≤ length out.old }
-    ensures { (room : ℕ) → Says (does room (Look (path_of path.now)) (state_of tree.entry.bytes.now tree.entry.places.now)).reply out.new result }
+    ensures { (room : ℕ) → Says (does room (Look (path_now path.entry)) (state_of tree.entry.bytes.now tree.entry.places.now)).reply out.new result }
 {
-    match look(tree, path) {
+    match look(tree, path.names) {
         Err(refusal) => say_refused(refusal.number(), out),
         Ok(seen) => say_entry(seen, out),
     }
@@ -104,20 +100,15 @@ pub fn say_look(tree: Tree, path: &[u8], out: &mut [u8]) -> usize
 
 // The answer to a write, from what was kept of it.
 pub fn say_write(act: Act, outcome: Outcome, out: &mut [u8]) -> usize
-    requires spells { Spells act.path.now }
-    requires range { path_ok (path_of act.path.now) ≡ true }
+    requires range { path_ok (path_now act.path) ≡ true }
     requires room { 1043 ≤ length out.old }
     ensures { Says (say_to (LetIn (Do (act_of act.entry ∷ []))) outcome) out.new result }
 {
     match outcome {
-        Outcome::Refused(refusal) => say_refused(refusal.number(), out),
-        Outcome::Done => {
-            match act.kind {
-                ActKind::Make { .. } => say_made(act.path, out),
-                ActKind::Put(_) => say_done(out),
-                ActKind::Drop(_) => say_done(out),
-                ActKind::Check(_) => say_done(out),
-            }
-        }
+        Err(refusal) => say_refused(refusal.number(), out),
+        Ok(()) => match act.kind {
+            ActKind::Make { .. } => say_made(act.path, out),
+            ActKind::Put(_) | ActKind::Drop(_) | ActKind::Check(_) => say_done(out),
+        },
     }
 }

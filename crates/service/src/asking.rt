@@ -1,135 +1,140 @@
 // What a call asks.
-ghost use Rattle.std.specs.Prelude.{◌≡◌, true, ◌||◌, [], ◌∷◌, Some};
-ghost use Rattle.model.specs.Tree.{none, path_ok, value_ok, Do, Look, Kids, core, one};
-ghost use Rattle.lent_bytes.specs.Paths.{path_of, Spells};
-ghost use Rattle.calls.specs.Format.{act_at};
-ghost use Rattle.calls.specs.Reading.{act_of, call_of, CallSpells, past, acts_in};
+ghost use Rattle.std.specs.Prelude.{◌≡◌, false, true, ◌||◌};
+ghost use Rattle.model.specs.Tree.{none, path_ok, value_ok, core, one};
+ghost use Rattle.calls.specs.Reading.{path_now, act_of, call_of, acts_in};
 ghost use Rattle.calls.specs.Screening.{screened, LetIn};
-ghost use Rattle.service.specs.Service.{act_in_range};
-ghost use Rattle.service.specs.Asking.{AskedAs, Plain};
+ghost use Rattle.tree.specs.Answers.{numbered};
+ghost use Rattle.service.specs.Service.{act_in_range, in_range};
+ghost use Rattle.service.specs.Asking.{AskedAs, Plain, IsTheAct, asked_call, told_at_once, not_let_in};
 
 use calls::reading::read_act;
-use calls::screening::{Screened, screen};
-use calls::types::{Act, ActKind, Call};
-use lent_bytes::parts::cut_at;
-use lent_bytes::paths::check_path;
+use calls::screening::{NotLetIn, screen};
+use calls::types::{Act, ActKind, Acts, Call};
+use lent_bytes::paths::{Path, check_path};
+use tree::refusal::Refusal;
 
-// What a call asks: it is refused at once by a number, whatever the tree is; it looks at a path, or asks for the names under one; or it writes by one act.
+// What a call asks: it looks at a path, or asks for the names under one; or it writes by one act.
 #[derive(Clone, Copy)]
 pub enum Asked<'a> {
-    AtOnce(u8),
-    Look(&'a [u8]),
-    Kids(&'a [u8]),
+    Look(Path<'a>),
+    Kids(Path<'a>),
     Write(Act<'a>),
 }
 
+// Why a call is refused at once, whatever the tree is: its bytes are not let in, or what it asks is out of range.
+#[derive(Clone, Copy, PartialEq, Eq)]
+pub enum AtOnce {
+    NotLetIn(NotLetIn),
+    OutOfRange,
+}
+
+impl AtOnce {
+    // The number that is said to it.
+    pub fn number(self) -> u8
+        ensures { result ≡ told_at_once self }
+    {
+        match self {
+            AtOnce::NotLetIn(why) => why.number(),
+            AtOnce::OutOfRange => Refusal::OutOfRange.number(),
+        }
+    }
+}
+
+impl From<NotLetIn> for AtOnce {
+    ghost from_gives = { λ why k. k ≡ not_let_in why };
+
+    fn from(why: NotLetIn) -> AtOnce {
+        AtOnce::NotLetIn(why)
+    }
+}
+
 // Is a path in range.
-fn is_path(path: &[u8]) -> bool
-    requires { Spells path.now }
-    ensures { result ≡ path_ok (path_of path.now) }
+fn is_path(path: Path) -> bool
+    ensures { result ≡ path_ok (path_now path.entry) }
 {
-    check_path(path)
+    check_path(path.names)
+}
+
+// Is a path that of the top.
+fn is_top(path: Path) -> bool
+    ensures { result ≡ none (path_now path.entry) }
+{
+    path.names.is_empty()
 }
 
 // Is a value in range.
 fn is_value(value: &[u8]) -> bool
     ensures { result ≡ value_ok value.now }
 {
-    match cut_at(value, 65537) {
-        Some(_) => false,
-        None => true,
-    }
+    value.len() <= 65536
 }
 
 // Are the path and the value of an act in range.
-fn is_in_range(act: Act) -> bool
-    requires { Plain act }
+fn is_act(act: Act) -> bool
+    requires { numbered act.kind ≡ false }
     ensures { result ≡ act_in_range (act_of act.entry) }
 {
     if !is_path(act.path) {
         return false;
     }
     match act.kind {
-        ActKind::Make { .. } => is_value(act.value),
-        ActKind::Put(_) => is_value(act.value),
-        ActKind::Drop(_) => true,
-        ActKind::Check(_) => true,
+        ActKind::Make { .. } | ActKind::Put(_) => is_value(act.value),
+        ActKind::Drop(_) | ActKind::Check(_) => true,
     }
 }
 
-// One act that writes, if it is in range.
-fn ask_act(act: Act<'_>) -> Asked<'_>
-    requires { Plain act }
-    ensures { AskedAs (LetIn (Do (act_of act.entry ∷ []))) result }
+// Is what a call asks in range.
+fn is_in_range(asked: Asked) -> bool
+    requires { Plain asked }
+    ensures { result ≡ in_range (asked_call asked.entry) }
 {
-    if is_in_range(act) {
-        return Asked::Write(act);
+    match asked {
+        Asked::Look(path) => is_path(path),
+        Asked::Kids(path) => is_top(path) || is_path(path),
+        Asked::Write(act) => is_act(act),
     }
-    Asked::AtOnce(1)
 }
 
-fn ask_look(path: &[u8]) -> Asked<'_>
-    requires { Spells path.now }
-    ensures { AskedAs (LetIn (Look (path_of path.now))) result }
+// The one act of a call of the core.
+fn the_act(acts: Acts<'_>) -> Act<'_>
+    requires { one (acts_in acts.count acts.bytes.now) ≡ true }
+    ensures { IsTheAct acts.entry result }
 {
-    if is_path(path) {
-        return Asked::Look(path);
-    }
-    Asked::AtOnce(1)
-}
-
-// Is a path that of the top.
-fn is_top(path: &[u8]) -> bool
-    requires { Spells path.now }
-    ensures { result ≡ none (path_of path.now) }
-{
-    path.is_empty()
-}
-
-fn ask_kids(path: &[u8]) -> Asked<'_>
-    requires { Spells path.now }
-    ensures { AskedAs (LetIn (Kids (path_of path.now))) result }
-{
-    if is_top(path) || is_path(path) {
-        return Asked::Kids(path);
-    }
-    Asked::AtOnce(1)
-}
-
-// What the one act of a call asks.
-fn ask_one(count: u8, acts: &[u8]) -> Asked<'_>
-    requires spells { past act_at count acts.now ≡ Some [] }
-    requires one { one (acts_in count acts.now) ≡ true }
-    ensures { AskedAs (LetIn (Do (acts_in count acts.now))) result }
-{
-    let Some(read) = read_act(acts) else {
-        return Asked::AtOnce(12);
-    };
-    ask_act(read.act)
+    read_act(acts.bytes).unwrap().0
 }
 
 // What a call of the core asks.
-fn ask_call(call: Call<'_>) -> Asked<'_>
-    requires spells { CallSpells call }
-    requires core { core (call_of call) ≡ true }
-    ensures { AskedAs (LetIn (call_of call.entry)) result }
+fn asked_by(call: Call<'_>) -> Asked<'_>
+    requires { core (call_of call) ≡ true }
+    ensures call { call_of call.entry ≡ asked_call result }
+    ensures plain { Plain result }
 {
     match call {
-        Call::Do(count, acts) => ask_one(count, acts),
-        Call::Look(path) => ask_look(path),
-        Call::Kids(path) => ask_kids(path),
-        Call::Open => Asked::AtOnce(12),
-        Call::End(_) => Asked::AtOnce(12),
+        Call::Do(acts) => Asked::Write(the_act(acts)),
+        Call::Look(path) => Asked::Look(path),
+        Call::Kids(path) => Asked::Kids(path),
+        Call::Open => unreachable!(),
+        Call::End(_) => unreachable!(),
     }
 }
 
-// What bytes that a client sent as a call ask.
-pub fn ask(bytes: &[u8]) -> Asked<'_>
+// What a call of the core asks, if it is in range.
+fn ask_call(call: Call<'_>) -> Result<Asked<'_>, AtOnce>
+    requires { core (call_of call) ≡ true }
+    ensures { AskedAs (LetIn (call_of call.entry)) result }
+{
+    let asked = asked_by(call);
+    if is_in_range(asked) {
+        Ok(asked)
+    } else {
+        Err(AtOnce::OutOfRange)
+    }
+}
+
+// What bytes that a client sent as a call ask, or why they are refused at once.
+pub fn ask(bytes: &[u8]) -> Result<Asked<'_>, AtOnce>
     ensures { AskedAs (screened bytes.now) result }
 {
-    match screen(bytes) {
-        Screened::NotBuilt => Asked::AtOnce(12),
-        Screened::NoCall => Asked::AtOnce(1),
-        Screened::LetIn(call) => ask_call(call),
-    }
+    let call = screen(bytes)?;
+    ask_call(call)
 }

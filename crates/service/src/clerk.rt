@@ -6,10 +6,9 @@ ghost use Rattle.service.specs.Answering.{Answers, AnsweredBy};
 
 use crate::answering::{say_kids, say_look, say_refused, say_write};
 use crate::asking::{Asked, ask};
-use crate::writing::write;
 use cells::draft::Size;
 use cells::held::Tree;
-use doing::is_calm;
+use doing::{do_one, is_calm};
 use scan::scanning::scan;
 
 // How long the answer is, and how much of the lent memory the next tree takes; none where the tree is as it was.
@@ -19,15 +18,22 @@ pub struct Answered {
     pub next: Option<Size>,
 }
 
-// Is the lent memory long enough for every tree of the room, and every answer.
-fn suits(room: u64, out: &[u8], places: &[u32], reply: &[u8]) -> bool
-    ensures { Decides result (Suits room out.now places.now × (room + 65581 ≤ length reply.now) × (length reply.now < 4294967296)) }
+// Are a buffer and its places long enough for every tree of the room.
+pub fn suits_tree(room: u64, out: &[u8], places: &[u32]) -> bool
+    ensures { Decides result (Suits room out.now places.now) }
 {
-    if out.len() > 4294967295 || reply.len() > 4294967295 || room > 4294967295 {
+    if out.len() > 4294967295 || room > 4294967295 {
         return false;
     }
     let n = room as usize;
-    n + 32796 <= out.len() && n / 1280 + 1 <= places.len() && n + 65581 <= reply.len()
+    n + 32796 <= out.len() && n / 1280 + 1 <= places.len()
+}
+
+// Is there room for every answer.
+fn suits_answer(room: u64, reply: &[u8]) -> bool
+    ensures { Decides result ((room + 65581 ≤ length reply.now) × (length reply.now < 4294967296)) }
+{
+    reply.len() < 4294967296 && room < 4294967296 && room as usize + 65581 <= reply.len()
 }
 
 // What a call asks, answered from a tree.
@@ -47,11 +53,16 @@ fn answer_from(
     requires small { length reply.old < 4294967296 }
     ensures { Answers room call.now (state_of tree.entry.bytes.now tree.entry.places.now) result out.new places.new reply.new }
 {
-    match ask(call) {
-        Asked::AtOnce(number) => Answered {
-            reply: say_refused(number, reply),
-            next: None,
-        },
+    let asked = match ask(call) {
+        Ok(asked) => asked,
+        Err(why) => {
+            return Answered {
+                reply: say_refused(why.number(), reply),
+                next: None,
+            };
+        }
+    };
+    match asked {
         Asked::Look(path) => Answered {
             reply: say_look(tree, path, reply),
             next: None,
@@ -61,10 +72,10 @@ fn answer_from(
             next: None,
         },
         Asked::Write(act) => {
-            let written = write(tree, room, act, out, places);
+            let written = do_one(tree, room, act, out, places);
             Answered {
-                reply: say_write(act, written.outcome, reply),
-                next: written.next,
+                reply: say_write(act, written.map(|_| ()), reply),
+                next: written.ok(),
             }
         }
     }
@@ -82,12 +93,10 @@ pub fn answer(
 ) -> Option<Answered>
     ensures { AnsweredBy room bytes.now call.now result last.new out.new places.new reply.new }
 {
-    if !suits(room, out, places, reply) {
+    if !suits_tree(room, out, places) || !suits_answer(room, reply) {
         return None;
     }
-    let Some(count) = scan(bytes, room, last) else {
-        return None;
-    };
+    let count = scan(bytes, room, last)?;
     let tree = Tree {
         bytes,
         places: &last[0..count + 1],

@@ -6,4 +6,3 @@ pub mod asking;
 pub mod clerk;
 pub mod laws;
 pub mod outcome;
-pub mod writing;

@@ -2,8 +2,4 @@
 use tree::refusal::Refusal;
 
 // What is kept of a write that was done, until it is answered: it was refused, or done. Which entry was made is told by the call itself.
-#[derive(Clone, Copy)]
-pub enum Outcome {
-    Refused(Refusal),
-    Done,
-}
+pub type Outcome = Result<(), Refusal>;

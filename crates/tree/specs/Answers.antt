@@ -1,11 +1,12 @@
 -- What the answers of the code stand for. Assumes nothing.
-use Rattle.std.specs.Prelude.{ℕ, Bool, false, List, [], ◌∷◌, Ok, Err, Result}
+use Rattle.std.specs.Prelude.{◌≡◌, ℕ, ◌<◌, ◌≤◌, Bool, false, List, [], ◌∷◌, Ok, Err, Result}
 use Rattle.model.specs.Tree.{Path, State, Step, Bad, Good, Act, Make, Put, Drop, Check, Out, No, Done}
 use Rattle.calls.specs.declared.types.ActKind.{ActKind}
 use Rattle.calls.specs.declared.types.ActKind.TheVariants as kind
 use Rattle.cells.specs.declared.draft.Size.{Size}
 use Rattle.cells.specs.Drafts.{drafting}
 use Rattle.tree.specs.declared.refusal.Refusal.{Refusal}
+use Rattle.tree.specs.declared.refusal.NoRefusal.{NoRefusal}
 use Rattle.tree.specs.declared.refusal.Refusal.TheVariants.{OutOfRange, NotThere, AlreadyThere, OtherVersion, HasKids, NoSession, UnderSession, UsedUp, Full}
 
 -- each refusal's number
@@ -19,6 +20,11 @@ reason NoSession = 6
 reason UnderSession = 7
 reason UsedUp = 8
 reason Full = 9
+
+-- the refusal with this number, or that there is none with it
+abbrev pub IsNumbered : ℕ → Result Refusal NoRefusal → Type 0
+IsNumbered n (Ok k) = reason k ≡ n
+IsNumbered n (Err e) = (e.0 ≡ n) × (0 < n → n ≤ 9 → ⊥)
 
 -- what an act did that makes these paths: a refusal, or the tree that was written
 abbrev pub step_of : List Path → Result Size Refusal → List ℕ → List ℕ → Step

@@ -15,7 +15,6 @@ do_act-requires c =
       holds = c.requires.holds;
       ready = ready c.args.room 0 s s c.requires.calm c.requires.fits (omega arith) (held_first c.args.room s c.requires.fits);
       suits = c.requires.suits;
-      spells = c.requires.spells;
       plain = c.requires.plain;
     }
 

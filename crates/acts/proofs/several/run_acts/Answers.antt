@@ -1,4 +1,4 @@
-use Rattle.std.proofs.Common.{◌≡◌, ℕ, ◌+◌, Some, None, Option, refl, ap, ◌∙◌, arith}
+use Rattle.std.proofs.Common.{◌≡◌, ℕ, ◌+◌, Some, None, Option, sym, refl, ap, ◌∙◌, arith}
 use Rattle.model.specs.Tree.{Failed}
 use Rattle.calls.specs.Reading.{act_of}
 use Rattle.cells.specs.Layout.{state_of}
@@ -12,18 +12,17 @@ pub acts-init : goal.acts-init
 acts-init c = (refl, acting_first _ _ _ _ c.requires.acts c.requires.plain c.requires.fits c.requires.some, c.requires.holds)
 
 pub returns-in_default : goal.returns-in_default
-returns-in_default c = absurd (acting_stop _ _ _ _ _ _ _ c.acts.invariant.1 c.acts-test.true c.in_default.ensures)
+returns-in_default c = absurd (acting_stop _ _ _ _ _ _ _ c.acts.invariant.1 c.acts-test.true (sym c.in_default.ensures))
 
 pub do_next-requires : goal.do_next-requires
 do_next-requires c =
-    let act = c.in-Some.read.act in
+    let act = c.in-Some.act in
     record {
       stands = c.acts.invariant.2;
       ready = acting_ready _ _ _ _ _ _ _ c.acts.invariant.1 c.acts-test.true c.requires.calm c.requires.fits c.requires.few;
       left = record { bytes = omega arith; small = omega arith; words = omega arith };
       right = record { bytes = omega arith; small = omega arith; words = omega arith };
-      spells = c.in-Some.ensures.1;
-      plain = plain_kind act.kind _ _ (acting_plain _ _ _ _ _ _ _ c.acts.invariant.1 c.acts-test.true (act_of act) _ c.in-Some.ensures.0);
+      plain = plain_kind act.kind _ _ (acting_plain _ _ _ _ _ _ _ c.acts.invariant.1 c.acts-test.true (act_of act) _ (sym c.in-Some.ensures));
     }
 
 pub acts-preserved : goal.acts-preserved
@@ -35,7 +34,7 @@ acts-preserved c =
       | else-n-count w ↦ count_before c.acts.n c.args.count s.changes c.if-n-count.changes.0 c.acts-test.true w.if-n-count.false (ap (λ x. x.0) w.changes-is ∙ c.changes_of-before.ensures)
     ] in (
       c.acts.invariant.0,
-      acting_more _ _ s _ _ _ _ c.acts.invariant.1 c.acts-test.true _ _ c.in-Some.ensures.0 c.if-n-count.changes.0 _ c.in-Ok.ensures.step count,
+      acting_more _ _ s _ _ _ _ c.acts.invariant.1 c.acts-test.true _ _ (sym c.in-Some.ensures) c.if-n-count.changes.0 _ c.in-Ok.ensures.step count,
       c.in-Ok.ensures.stands,
     )
 
@@ -51,7 +50,7 @@ returns-in-Some-refused c =
     elim c.acts-test.branch [
       | else-acts-test w ↦ none_kept c.in-Some-refused.refused _ c.in-Some-refused.is (w.refused-is ∙ c.acts.invariant.0)
       | then-acts-test+in-Some+in-Err w ↦ record {
-        ran = acting_refused _ _ _ _ _ _ _ c.acts.invariant.1 w.acts-test.true _ _ w.in-Some.ensures.0 _ _ w.in-Err.ensures.step ∙
+        ran = acting_refused _ _ _ _ _ _ _ c.acts.invariant.1 w.acts-test.true _ _ (sym w.in-Some.ensures) _ _ w.in-Err.ensures.step ∙
             ap (λ (k : Refused). Failed k.act (reason k.refusal)) (kept_refusal _ c.in-Some-refused.refused _ w.refused-is c.in-Some-refused.is);
         stands = tt;
       }

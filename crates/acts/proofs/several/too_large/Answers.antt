@@ -17,12 +17,12 @@ loop-n-init c =
     subst (λ (k : ℕ). Summed (acts_in count c.args.acts.now) k c.args.acts.now 0) (sym (sub-zero count)) (summed_first count c.args.acts.now c.requires)
 
 pub returns-in_default : goal.returns-in_default
-returns-in_default c = absurd (summed_stop _ _ (c.args.count - (c.loop-n.n + 1)) _ _ c.loop-n.invariant (omega arith) c.in_default.ensures)
+returns-in_default c = absurd (summed_stop _ _ (c.args.count - (c.loop-n.n + 1)) _ _ c.loop-n.invariant (omega arith) (sym c.in_default.ensures))
 
 pub returns-then-sum-gt262144 : goal.returns-then-sum-gt262144
 returns-then-sum-gt262144 c =
     let all = acts_in c.args.count c.args.acts.now in
-    let over = summed_over all _ (c.args.count - (c.loop-n.n + 1)) _ _ c.loop-n.invariant (omega arith) _ _ c.in-Some.ensures.0 (omega (arith, c.value_len-sum.ensures)) in
+    let over = summed_over all _ (c.args.count - (c.loop-n.n + 1)) _ _ c.loop-n.invariant (omega arith) _ _ (sym c.in-Some.ensures) (omega (arith, c.value_len-sum.ensures)) in
     sym (or_right (ltb 64 (length all)) (ltb 262144 (values_in all)) (lt-ltb 262144 (values_in all) over))
 
 pub loop-n-preserved : goal.loop-n-preserved
@@ -31,8 +31,8 @@ loop-n-preserved c =
     let all = acts_in count c.args.acts.now in
     let n = c.loop-n.n in
     let sum = c.loop-n.sum in
-    subst (λ (k : ℕ). Summed all (count - (n + 1)) c.in-Some.read.rest.now (sum + k)) (sym c.value_len-sum.ensures)
-    (summed_more all _ (count - (n + 1)) _ sum c.loop-n.invariant (omega arith) _ _ c.in-Some.ensures.0 (omega (arith, c.value_len-sum.ensures)))
+    subst (λ (k : ℕ). Summed all (count - (n + 1)) c.in-Some.behind.now (sum + k)) (sym c.value_len-sum.ensures)
+    (summed_more all _ (count - (n + 1)) _ sum c.loop-n.invariant (omega arith) _ _ (sym c.in-Some.ensures) (omega (arith, c.value_len-sum.ensures)))
 
 pub returns : goal.returns
 returns c =

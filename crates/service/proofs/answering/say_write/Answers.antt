@@ -7,6 +7,6 @@ use Rattle.service.proofs.answering.say_write.Goals as goal
 
 pub say_made-requires : goal.say_made-requires
 say_made-requires c =
-    let p = path_of c.args.act.path.now in
+    let p = path_of c.args.act.path.names.now in
     let few = leb-true (length p) 16 (and_parts (not (none p)) (leb (length p) 16) (and_parts (not (none p) && leb (length p) 16) (every name_ok p) c.requires.range).0).1 in
-    record { spells = c.requires.spells; few = omega (arith, few); room = omega (arith, c.requires.room, path_long p c.requires.range, ap length c.requires.spells) }
+    record { few = omega (arith, few); room = omega (arith, c.requires.room, path_long p c.requires.range, ap length c.args.act.path.spells) }
