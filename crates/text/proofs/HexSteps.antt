@@ -1,9 +1,9 @@
 -- One byte on, in the writing and the reading of hexadecimal digits.
-use Rattle.std.proofs.Common.{◌≡◌, ℕ, ◌+◌, ◌*◌, ◌/◌, ◌%◌, ◌<◌, ◌≤◌, List, [], ◌∷◌, ◌++◌, length, get_or, take, drop, Some, None, Ok, Err, Option, Result, sym, refl, ap, ◌∙◌, append_assoc, arith}
-use Rattle.std.proofs.lemmas.List.{at_drop_more, at_drop_all, take_more}
+use Rattle.std.proofs.Common.{◌≡◌, ℕ, ◌+◌, ◌-◌, ◌*◌, ◌/◌, ◌%◌, ◌<◌, ◌≤◌, List, [], ◌∷◌, ◌++◌, length, get_or, take, drop, Some, None, Ok, Err, Option, Result, sym, refl, ap, ◌∙◌, append_assoc, arith}
+use Rattle.std.proofs.lemmas.List.{take_more, length-drop}
 use Rattle.text.specs.declared.hex.HexFault.{HexFault}
-use Rattle.text.specs.declared.hex.HexFault.TheVariants.{Odd, Digit}
-use Rattle.text.specs.Hex.{hex_digit, hex_of, hex_value, unhex_from, byte_before, bytes_before}
+use Rattle.text.specs.declared.hex.HexFault.TheVariants.{Odd, Digit, Memory}
+use Rattle.text.specs.Hex.{hex_digit, hex_of, hex_value, unhex_from, byte_of, byte_before, bytes_before, Unhexed}
 
 pub hex_of_push : (xs : List ℕ) (b : ℕ) → hex_of (xs ++ (b ∷ [])) ≡ hex_of xs ++ (hex_digit (b / 16) ∷ (hex_digit (b % 16) ∷ []))
 unfolding hex_of
@@ -17,50 +17,58 @@ hex_of_more front xs i h =
     append_assoc front (hex_of (take i xs)) _
     ∙ ap (λ (ys : List ℕ). front ++ ys) (sym (hex_of_push (take i xs) (get_or xs i 0)) ∙ ap hex_of (sym (take_more xs i 0 h)))
 
-pub pair_step : (xs : List ℕ) (j : ℕ) → j + 1 < length xs →
-    unhex_from j (drop j xs) ≡ byte_before j (hex_value (get_or xs j 0)) (hex_value (get_or xs (j + 1) 0)) (unhex_from (j + 2) (drop (j + 2) xs))
+pair_step : (j : ℕ) (rest : List ℕ) → 2 ≤ length rest →
+    unhex_from j rest ≡ byte_before j (hex_value (get_or rest 0 0)) (hex_value (get_or rest 1 0)) (unhex_from (j + 2) (drop 2 rest))
 unfolding unhex_from
-pair_step xs j h =
-    at_drop_more (unhex_from j) xs j 0 (omega arith)
-    ∙ (at_drop_more (λ (ys : List ℕ). unhex_from j (get_or xs j 0 ∷ ys)) xs (j + 1) 0 h
-    ∙ ap (λ (k : ℕ). byte_before j (hex_value (get_or xs j 0)) (hex_value (get_or xs (j + 1) 0)) (unhex_from (j + 2) (drop k xs))) (let e : j + 1 + 1 ≡ j + 2 = omega arith in e))
+pair_step j [] h = absurd (omega arith)
+pair_step j (a ∷ []) h = absurd (omega arith)
+pair_step j (a ∷ b ∷ xs) h = refl
 
-pub unhex_end : (xs : List ℕ) (j : ℕ) → length xs ≤ j → unhex_from j (drop j xs) ≡ Ok []
+pub unhex_end : (j : ℕ) (rest : List ℕ) → length rest ≡ 0 → unhex_from j rest ≡ Ok []
 unfolding unhex_from
-unhex_end xs j h = at_drop_all (unhex_from j) xs j h
+unhex_end j [] h = refl
+unhex_end j (a ∷ xs) h = absurd (omega arith)
 
-pub unhex_lone : (xs : List ℕ) (j : ℕ) → length xs ≡ j + 1 → unhex_from j (drop j xs) ≡ Err (Odd j)
+pub unhex_lone : (j : ℕ) (rest : List ℕ) → length rest ≡ 1 → unhex_from j rest ≡ Err (Odd j)
 unfolding unhex_from
-unhex_lone xs j h =
-    at_drop_more (unhex_from j) xs j 0 (omega arith) ∙ at_drop_all (λ (ys : List ℕ). unhex_from j (get_or xs j 0 ∷ ys)) xs (j + 1) (omega arith)
+unhex_lone j [] h = absurd (omega arith)
+unhex_lone j (a ∷ []) h = refl
+unhex_lone j (a ∷ b ∷ xs) h = absurd (omega arith)
 
--- one more byte read: it stands behind the others
-bytes_more : (front : List ℕ) (j h l : ℕ) (rest : Result (List ℕ) HexFault) →
-    bytes_before front (byte_before j (Some h) (Some l) rest) ≡ bytes_before (front ++ ((16 * h + l) ∷ [])) rest
-bytes_more front j h l (Ok bs) = ap Ok (sym (append_assoc front ((16 * h + l) ∷ []) bs))
-bytes_more front j h l (Err e) = refl
+-- a byte that is read stands behind the others; a fault is that of the whole
+more_of : (front : List ℕ) (j b : ℕ) (high low : Option ℕ) (behind : Result (List ℕ) HexFault) → Ok b ≡ byte_of j high low →
+    bytes_before front (byte_before j high low behind) ≡ bytes_before (front ++ (b ∷ [])) behind
+more_of front j b None low behind e = cc
+more_of front j b (Some h) None behind e = cc
+more_of front j b (Some h) (Some l) (Ok bs) e = ap Ok (ap (λ (n : ℕ). front ++ (n ∷ bs)) (let same : 16 * h + l ≡ b = cc in same) ∙ sym (append_assoc front (b ∷ []) bs))
+more_of front j b (Some h) (Some l) (Err f) e = refl
 
--- what is left to read at two digits, by what these are
-module _ (front xs : List ℕ) (j : ℕ) (more : j + 1 < length xs) where
-  pub bad_high : None ≡ hex_value (get_or xs j 0) → bytes_before front (unhex_from j (drop j xs)) ≡ Err (Digit j)
-  bad_high e =
-      ap (bytes_before front)
-      (pair_step xs j more ∙ ap (λ (v : Option ℕ). byte_before j v (hex_value (get_or xs (j + 1) 0)) (unhex_from (j + 2) (drop (j + 2) xs))) (sym e))
+fault_of : (front : List ℕ) (j : ℕ) (f : HexFault) (high low : Option ℕ) (behind : Result (List ℕ) HexFault) → Err f ≡ byte_of j high low →
+    bytes_before front (byte_before j high low behind) ≡ Err f
+fault_of front j f None low behind e = cc
+fault_of front j f (Some h) None behind e = cc
+fault_of front j f (Some h) (Some l) behind e = cc
 
-  pair_is : (h : ℕ) (low : Option ℕ) → Some h ≡ hex_value (get_or xs j 0) → low ≡ hex_value (get_or xs (j + 1) 0) →
-      unhex_from j (drop j xs) ≡ byte_before j (Some h) low (unhex_from (j + 2) (drop (j + 2) xs))
-  pair_is h low e f =
-      pair_step xs j more
-      ∙ (ap (λ (v : Option ℕ). byte_before j v (hex_value (get_or xs (j + 1) 0)) (unhex_from (j + 2) (drop (j + 2) xs))) (sym e)
-      ∙ ap (λ (v : Option ℕ). byte_before j (Some h) v (unhex_from (j + 2) (drop (j + 2) xs))) (sym f))
+module _ (front : List ℕ) (j : ℕ) (rest : List ℕ) (two : 2 ≤ length rest) where
+  byte_more : (b : ℕ) → Ok b ≡ byte_of j (hex_value (get_or rest 0 0)) (hex_value (get_or rest 1 0)) →
+      bytes_before front (unhex_from j rest) ≡ bytes_before (front ++ (b ∷ [])) (unhex_from (j + 2) (drop 2 rest))
+  byte_more b e = ap (bytes_before front) (pair_step j rest two) ∙ more_of front j b _ _ _ e
 
-  pub bad_low : (h : ℕ) → Some h ≡ hex_value (get_or xs j 0) → None ≡ hex_value (get_or xs (j + 1) 0) →
-      bytes_before front (unhex_from j (drop j xs)) ≡ Err (Digit (j + 1))
-  bad_low h e f = ap (bytes_before front) (pair_is h None e f)
+  pub byte_fault : (f : HexFault) → Err f ≡ byte_of j (hex_value (get_or rest 0 0)) (hex_value (get_or rest 1 0)) → bytes_before front (unhex_from j rest) ≡ Err f
+  byte_fault f e = ap (bytes_before front) (pair_step j rest two) ∙ fault_of front j f _ _ _ e
 
-  pub good_pair : (h l k : ℕ) → Some h ≡ hex_value (get_or xs j 0) → Some l ≡ hex_value (get_or xs (j + 1) 0) → k ≡ j + 2 →
-      bytes_before front (unhex_from j (drop j xs)) ≡ bytes_before (front ++ ((16 * h + l) ∷ [])) (unhex_from k (drop k xs))
-  good_pair h l k e f g =
-      ap (bytes_before front) (pair_is h (Some l) e f)
-      ∙ (bytes_more front j h l (unhex_from (j + 2) (drop (j + 2) xs))
-      ∙ ap (λ (n : ℕ). bytes_before (front ++ ((16 * h + l) ∷ [])) (unhex_from n (drop n xs))) (sym g))
+pub byte_next : (said : Result (List ℕ) HexFault) (front text rest others items : List ℕ) (b : ℕ) → 2 ≤ length rest → length rest ≤ length text → others ≡ drop 2 rest →
+    said ≡ bytes_before front (unhex_from (length text - length rest) rest) → Ok b ≡ byte_of (length text - length rest) (hex_value (get_or rest 0 0)) (hex_value (get_or rest 1 0)) →
+    items ≡ front ++ (b ∷ []) →
+    said ≡ bytes_before items (unhex_from (length text - length others) others)
+byte_next said front text rest others items b two within o s e p =
+    let on : length text - length rest + 2 ≡ length text - length others = omega (arith, ap length o, length-drop 2 rest) in
+    s
+    ∙ (byte_more front (length text - length rest) rest two b e
+    ∙ (ap (λ (ys : List ℕ). bytes_before (front ++ (b ∷ [])) (unhex_from (length text - length rest + 2) ys)) (sym o)
+    ∙ ap (λ (n : ℕ). bytes_before (front ++ (b ∷ [])) (unhex_from n others)) on ∙ ap (λ (xs : List ℕ). bytes_before xs (unhex_from (length text - length others) others)) (sym p)))
+
+pub unhexed_fault : (f : HexFault) (said : Result (List ℕ) HexFault) → said ≡ Err f → Unhexed (Err f) said
+unhexed_fault (Odd i) said e = e
+unhexed_fault (Digit i) said e = e
+unhexed_fault Memory said e = tt

@@ -1,36 +1,49 @@
--- One character on, in the cutting of a line into words.
-use Rattle.std.proofs.Common.{◌≡◌, ℕ, ◌+◌, ◌<◌, ◌≤◌, cond, eqb, List, [], ◌∷◌, ◌++◌, length, get_or, take, drop, sym, ap, ◌∙◌, append_assoc}
-use Rattle.std.proofs.lemmas.List.{at_drop_more, at_drop_all, take_more, append-nil}
-use Rattle.std.proofs.lemmas.Bool.{eq-eqb, ne_eqb, cond-true, cond-false}
+-- A line's first word ends where its first space stands.
+use Rattle.std.proofs.Common.{◌≡◌, ℕ, suc, ◌+◌, ◌≤◌, Bool, true, false, cond, not, eqb, ltb, List, [], ◌∷◌, length, take, drop, Some, None, Option, refl, sym, ap, ◌∙◌, arith}
+use Rattle.std.specs.List.{position, position_or_len}
+use Rattle.std.proofs.lemmas.Bool.{cond_both}
+use Rattle.std.proofs.lemmas.Bool.Decides.{nat_tests}
+use Rattle.std.proofs.lemmas.List.{take_all, drop_all}
 use Rattle.text.specs.Words.{word_of, rest_of}
 
-module _ (xs : List ℕ) (i : ℕ) (more : i < length xs) where
-  word_step : word_of (drop i xs) ≡ cond (eqb (get_or xs i 0) 32) [] (get_or xs i 0 ∷ word_of (drop (i + 1) xs))
-  unfolding word_of
-  word_step = at_drop_more word_of xs i 0 more
+-- what a place that was found, or none, says of where the first one stands
+pub found_at : (p : ℕ → Bool) (xs : List ℕ) (i : ℕ) → Some i ≡ position p xs → position_or_len p xs ≡ i
+found_at p xs i e = cond_both (ltb (position_or_len p xs) (length xs)) (Some (position_or_len p xs)) None (λ (o : Option ℕ). Some i ≡ o → position_or_len p xs ≡ i) (λ _ e. cc) (λ _ e. cc) e
 
-  rest_step : rest_of (drop i xs) ≡ cond (eqb (get_or xs i 0) 32) (drop (i + 1) xs) (rest_of (drop (i + 1) xs))
-  unfolding rest_of
-  rest_step = at_drop_more rest_of xs i 0 more
+pub found_none : (p : ℕ → Bool) (xs : List ℕ) → None ≡ position p xs → length xs ≤ position_or_len p xs
+found_none p xs e = grind (arith, nat_tests)
 
-  pub word_ends : get_or xs i 0 ≡ 32 → take i xs ++ word_of (drop i xs) ≡ take i xs
-  word_ends e = ap (λ (w : List ℕ). take i xs ++ w) (word_step ∙ cond-true _ _ _ (eq-eqb _ _ e)) ∙ append-nil (take i xs)
+abbrev pub space : ℕ → Bool
+space c = eqb c 32
 
-  pub rest_begins : get_or xs i 0 ≡ 32 → rest_of (drop i xs) ≡ drop (i + 1) xs
-  rest_begins e = rest_step ∙ cond-true _ _ _ (eq-eqb _ _ e)
-
-  pub word_goes_on : (get_or xs i 0 ≡ 32 → ⊥) → take i xs ++ word_of (drop i xs) ≡ take (i + 1) xs ++ word_of (drop (i + 1) xs)
-  word_goes_on e =
-      ap (λ (w : List ℕ). take i xs ++ w) (word_step ∙ cond-false _ _ _ (ne_eqb _ _ e))
-      ∙ (sym (append_assoc (take i xs) (get_or xs i 0 ∷ []) (word_of (drop (i + 1) xs))) ∙ ap (λ (w : List ℕ). w ++ word_of (drop (i + 1) xs)) (sym (take_more xs i 0 more)))
-
-  pub rest_goes_on : (get_or xs i 0 ≡ 32 → ⊥) → rest_of (drop i xs) ≡ rest_of (drop (i + 1) xs)
-  rest_goes_on e = rest_step ∙ cond-false _ _ _ (ne_eqb _ _ e)
-
-pub word_all : (xs : List ℕ) (i : ℕ) → length xs ≤ i → word_of (drop i xs) ≡ []
+word_is : (xs : List ℕ) → take (position_or_len space xs) xs ≡ word_of xs
 unfolding word_of
-word_all xs i h = at_drop_all word_of xs i h
+word_is [] = refl
+word_is (c ∷ cs) = go (space c) (position_or_len space cs) (word_is cs)
+  where
+    go : (b : Bool) (p : ℕ) → take p cs ≡ word_of cs → take (cond (not b) (1 + p) 0) (c ∷ cs) ≡ cond b [] (c ∷ word_of cs)
+    go true p e = refl
+    go false p e = ap (λ (n : ℕ). take n (c ∷ cs)) (let one : 1 + p ≡ suc p = omega arith in one) ∙ ap (λ (ys : List ℕ). c ∷ ys) e
 
-pub rest_none : (xs : List ℕ) (i : ℕ) → length xs ≤ i → rest_of (drop i xs) ≡ []
+rest_is : (xs : List ℕ) → drop (1 + position_or_len space xs) xs ≡ rest_of xs
 unfolding rest_of
-rest_none xs i h = at_drop_all rest_of xs i h
+rest_is [] = refl
+rest_is (c ∷ cs) = go (space c) (position_or_len space cs) (rest_is cs)
+  where
+    go : (b : Bool) (p : ℕ) → drop (1 + p) cs ≡ rest_of cs → drop (1 + cond (not b) (1 + p) 0) (c ∷ cs) ≡ cond b cs (rest_of cs)
+    go true p e = refl
+    go false p e = ap (λ (n : ℕ). drop n (c ∷ cs)) (let one : 1 + (1 + p) ≡ suc (1 + p) = omega arith in one) ∙ e
+
+pub word_cut : (xs : List ℕ) (i : ℕ) → Some i ≡ position space xs → (take i xs ≡ word_of xs) × (drop (i + 1) xs ≡ rest_of xs)
+word_cut xs i e =
+    let at = found_at space xs i e in (
+      ap (λ (n : ℕ). take n xs) (sym at) ∙ word_is xs,
+      ap (λ (n : ℕ). drop n xs) (let e : i + 1 ≡ 1 + position_or_len space xs = omega arith in e) ∙ rest_is xs,
+    )
+
+pub word_whole : (xs : List ℕ) → None ≡ position space xs → (xs ≡ word_of xs) × ([] ≡ rest_of xs)
+word_whole xs e =
+    let long = found_none space xs e in (
+      sym (take_all (position_or_len space xs) xs long) ∙ word_is xs,
+      sym (drop_all (1 + position_or_len space xs) xs (omega arith)) ∙ rest_is xs,
+    )

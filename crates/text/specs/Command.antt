@@ -21,11 +21,14 @@ abbrev pub letter_from : (me all : ℕ) → Result ℕ DecimalFault → List ℕ
 letter_from me all (Ok j) hex = cond (nat_lt j all) (cond (j == me) (Err Own) (Ok (Brings j hex))) (Err (NoHouse j))
 letter_from me all (Err e) hex = Err (Number e)
 
+abbrev pub beat_of : List ℕ → Result Said CommandFault
+beat_of line = cond (bytes_eq line (codes "beat")) (Ok Beats) (Err Unknown)
+
 abbrev pub command_of : (me all : ℕ) → List ℕ → Result Said CommandFault
 command_of me all line =
     cond (bytes_eq (word_of line) (codes "ask")) (Ok (Asks (rest_of line)))
     (cond (bytes_eq (word_of line) (codes "from")) (letter_from me all (undecimal (word_of (rest_of line))) (rest_of (rest_of line)))
-    (cond (bytes_eq line (codes "beat")) (Ok Beats) (Err Unknown)))
+    (beat_of line))
 
 -- what the reader answers, with the bytes that it points to
 abbrev pub command_read : Result Command CommandFault → Result Said CommandFault

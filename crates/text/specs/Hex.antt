@@ -14,6 +14,12 @@ hex_of (b ∷ bs) = hex_digit (b / 16) ∷ (hex_digit (b % 16) ∷ hex_of bs)
 abbrev pub hex_value : ℕ → Option ℕ
 hex_value c = cond (nat_le 48 c && nat_le c 57) (Some (c - 48)) (cond (nat_le 97 c && nat_le c 102) (Some (c - 87)) (cond (nat_le 65 c && nat_le c 70) (Some (c - 55)) None))
 
+-- the byte of two digits, or the place of the first that is none
+abbrev pub byte_of : (place : ℕ) → (high low : Option ℕ) → Result ℕ HexFault
+byte_of i None low = Err (Digit i)
+byte_of i (Some h) None = Err (Digit (i + 1))
+byte_of i (Some h) (Some l) = Ok (16 * h + l)
+
 -- the byte of two digits before the bytes behind it, or the place of the first that is no digit
 abbrev pub byte_before : (place : ℕ) → (high low : Option ℕ) → Result (List ℕ) HexFault → Result (List ℕ) HexFault
 byte_before i None low rest = Err (Digit i)

@@ -1,13 +1,13 @@
 // The lines and the arguments of the program of one replica.
 ghost use Rattle.std.specs.Prelude.{◌≡◌};
-ghost use Rattle.text.specs.Command.{command_of, command_read, letter_from, place_of};
+ghost use Rattle.text.specs.Command.{beat_of, command_of, command_read, letter_from, place_of};
 ghost use Rattle.text.specs.Decimal.{undecimal};
 ghost use Rattle.text.specs.Words.{word_of, rest_of};
+ghost use Rattle.text.specs.declared.command.CommandFault.TheVariants.{Number};
 
 use crate::decimal::{DecimalFault, read_decimal};
-use crate::words::{cut_word, is};
-use std::fmt;
-use std::fmt::Display;
+use crate::words::cut_word;
+use thiserror::Error;
 
 // A line, with its hexadecimal digits.
 #[derive(Clone, Copy)]
@@ -17,61 +17,61 @@ pub enum Command<'a> {
     Beat,
 }
 
-#[derive(Clone, Copy)]
+// Why a line is none of those.
+#[derive(Clone, Copy, Debug, PartialEq, Eq, Error)]
 pub enum CommandFault {
+    #[error("no such line: ask HEX, from J HEX or beat is wanted")]
     Unknown,
     // the sender is no number
+    #[error(transparent)]
     Number(DecimalFault),
     // the sender's number is not below how many there are
+    #[error("there is no house {0}")]
     NoHouse(u64),
     // the sender is this replica itself
+    #[error("a letter comes from another house")]
     Own,
 }
 
-impl fmt::Display for CommandFault {
-    fn fmt<W: fmt::Write>(&self, f: &mut fmt::Formatter<W>) -> fmt::Result {
-        match self {
-            CommandFault::Unknown => f.write_str(
-                "no such line: ask HEX, from J HEX or beat is wanted",
-            ),
-            CommandFault::Number(fault) => fault.fmt(f),
-            CommandFault::NoHouse(house) => write!(f, "there is no house {house}"),
-            CommandFault::Own => f.write_str("a letter comes from another house"),
-        }
+impl From<DecimalFault> for CommandFault {
+    ghost from_gives = { λ e r. r ≡ Number e };
+
+    fn from(fault: DecimalFault) -> CommandFault {
+        CommandFault::Number(fault)
     }
 }
 
 pub fn read_command(line: &[u8], me: u8, all: u8) -> Result<Command<'_>, CommandFault>
     ensures { command_read result ≡ command_of me all line.now }
 {
-    let cut = cut_word(line);
-    if is(cut.word, "ask") {
-        return Ok(Command::Ask(cut.rest));
+    match cut_word(line) {
+        (b"ask", rest) => Ok(Command::Ask(rest)),
+        (b"from", rest) => read_letter(rest, me, all),
+        _ => read_beat(line),
     }
-    if is(cut.word, "from") {
-        return read_letter(cut.rest, me, all);
+}
+
+fn read_beat(line: &[u8]) -> Result<Command<'_>, CommandFault>
+    ensures { command_read result ≡ beat_of line.now }
+{
+    match line {
+        b"beat" => Ok(Command::Beat),
+        _ => Err(CommandFault::Unknown),
     }
-    if is(line, "beat") {
-        return Ok(Command::Beat);
-    }
-    Err(CommandFault::Unknown)
 }
 
 fn read_letter(text: &[u8], me: u8, all: u8) -> Result<Command<'_>, CommandFault>
     ensures { command_read result ≡ letter_from me all (undecimal (word_of text.now)) (rest_of text.now) }
 {
-    let cut = cut_word(text);
-    let house = match read_decimal(cut.word) {
-        Ok(house) => house,
-        Err(fault) => return Err(CommandFault::Number(fault)),
-    };
+    let (house, rest) = cut_word(text);
+    let house = read_decimal(house)?;
     if house >= all as u64 {
         return Err(CommandFault::NoHouse(house));
     }
     if house == me as u64 {
         return Err(CommandFault::Own);
     }
-    Ok(Command::From(house as u8, cut.rest))
+    Ok(Command::From(house as u8, rest))
 }
 
 // Which replica a program is, of how many, and its incarnation.
@@ -85,15 +85,9 @@ pub struct Place {
 pub fn read_place(me: &[u8], all: &[u8], chance: &[u8]) -> Option<Place>
     ensures { result ≡ place_of me.now all.now chance.now }
 {
-    let Ok(me) = read_decimal(me) else {
-        return None;
-    };
-    let Ok(all) = read_decimal(all) else {
-        return None;
-    };
-    let Ok(chance) = read_decimal(chance) else {
-        return None;
-    };
+    let me = read_decimal(me).ok()?;
+    let all = read_decimal(all).ok()?;
+    let chance = read_decimal(chance).ok()?;
     if me < all && all <= 7 {
         Some(Place {
             me: me as u8,

@@ -4,26 +4,19 @@ ghost use Rattle.text.specs.Decimal.{undecimal};
 ghost use Rattle.text.specs.Pushed.{Pushed};
 
 use std::alloc::{AllocError, Global};
-use std::fmt;
+use thiserror::Error;
 
 // Why a text is no number, with the place in it.
-#[derive(Clone, Copy)]
+#[derive(Clone, Copy, Debug, PartialEq, Eq, Error)]
 pub enum DecimalFault {
+    #[error("no number")]
     Empty,
     // no decimal digit
+    #[error("no decimal digit at {0} of the number")]
     Digit(usize),
     // 2^64 or more
+    #[error("a number of more than 64 bits")]
     Large,
-}
-
-impl fmt::Display for DecimalFault {
-    fn fmt<W: fmt::Write>(&self, f: &mut fmt::Formatter<W>) -> fmt::Result {
-        match self {
-            DecimalFault::Empty => f.write_str("no number"),
-            DecimalFault::Digit(at) => write!(f, "no decimal digit at {at} of the number"),
-            DecimalFault::Large => f.write_str("a number of more than 64 bits"),
-        }
-    }
 }
 
 // Writes the number's digits behind what is there.
@@ -43,10 +36,10 @@ pub fn read_decimal(text: &[u8]) -> Result<u64, DecimalFault>
     }
     let mut n: u64 = 0;
     for (i, c) in text.iter().enumerate() {
-        if *c < 48 || *c > 57 {
+        if !c.is_ascii_digit() {
             return Err(DecimalFault::Digit(i));
         }
-        let digit = (*c - 48) as u64;
+        let digit = (*c - b'0') as u64;
         if n > (u64::MAX - digit) / 10 {
             return Err(DecimalFault::Large);
         }

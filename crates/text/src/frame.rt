@@ -5,7 +5,7 @@ ghost use Rattle.text.specs.declared.frame.FrameFault.TheVariants.{Memory};
 
 use lent_bytes::numbers::{read_u32, read_u64};
 use std::alloc::AllocError;
-use std::fmt;
+use thiserror::Error;
 
 #[derive(Clone, Copy)]
 pub struct Frame<'a> {
@@ -13,28 +13,20 @@ pub struct Frame<'a> {
     pub call: &'a [u8],
 }
 
-#[derive(Clone, Copy)]
+// Why bytes are no frame, or a call has none.
+#[derive(Clone, Copy, Debug, PartialEq, Eq, Error)]
 pub enum FrameFault {
     // fewer than 12 bytes: a length, and a number behind it
+    #[error("fewer than 12 bytes: a length and a number are wanted")]
     Short,
     // another length than the rest has
+    #[error("the length does not match")]
     Length,
     // 2^32 bytes or more behind the length
+    #[error("too long for a length of 4 bytes")]
     Long,
+    #[error("no memory")]
     Memory,
-}
-
-impl fmt::Display for FrameFault {
-    fn fmt<W: fmt::Write>(&self, f: &mut fmt::Formatter<W>) -> fmt::Result {
-        match self {
-            FrameFault::Short => f.write_str(
-                "fewer than 12 bytes: a length and a number are wanted",
-            ),
-            FrameFault::Length => f.write_str("the length does not match"),
-            FrameFault::Long => f.write_str("too long for a length of 4 bytes"),
-            FrameFault::Memory => f.write_str("no memory"),
-        }
-    }
 }
 
 impl From<AllocError> for FrameFault {

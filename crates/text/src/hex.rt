@@ -1,30 +1,23 @@
 // Bytes as hexadecimal digits.
-ghost use Rattle.std.specs.Prelude.{◌≡◌, ℕ, ◌<◌, IfSome};
-ghost use Rattle.text.specs.Hex.{hex_digit, hex_value, hex_of, unhex, Unhexed};
+ghost use Rattle.std.specs.Prelude.{◌≡◌, ℕ, ◌+◌, ◌^◌, ◌<◌, IfSome};
+ghost use Rattle.text.specs.Hex.{hex_digit, hex_value, hex_of, byte_of, unhex, Unhexed};
 ghost use Rattle.text.specs.Pushed.{Pushed};
 ghost use Rattle.text.specs.declared.hex.HexFault.TheVariants.{Memory};
 
 use std::alloc::{AllocError, AllocFailed, Global};
-use std::fmt;
+use thiserror::Error;
 
 // Why a text is no bytes, with the place in it.
-#[derive(Clone, Copy)]
+#[derive(Clone, Copy, Debug, PartialEq, Eq, Error)]
 pub enum HexFault {
     // the last digit has no second one
+    #[error("the hexadecimal digit at {0} stands alone")]
     Odd(usize),
     // no hexadecimal digit
+    #[error("no hexadecimal digit at {0}")]
     Digit(usize),
+    #[error("no memory")]
     Memory,
-}
-
-impl fmt::Display for HexFault {
-    fn fmt<W: fmt::Write>(&self, f: &mut fmt::Formatter<W>) -> fmt::Result {
-        match self {
-            HexFault::Odd(at) => write!(f, "the hexadecimal digit at {at} stands alone"),
-            HexFault::Digit(at) => write!(f, "no hexadecimal digit at {at}"),
-            HexFault::Memory => f.write_str("no memory"),
-        }
-    }
 }
 
 impl<T: Drop> From<AllocFailed<T>> for HexFault {
@@ -39,7 +32,7 @@ pub fn hex_digit(n: u8) -> u8
     requires { n < 16 }
     ensures { result ≡ hex_digit n }
 {
-    if n < 10 { 48 + n } else { 87 + n }
+    if n < 10 { b'0' + n } else { b'a' + (n - 10) }
 }
 
 pub fn hex_value(c: u8) -> Option<u8>
@@ -47,9 +40,9 @@ pub fn hex_value(c: u8) -> Option<u8>
     ensures small { IfSome result (λ v. v < 16) }
 {
     match c {
-        48..=57 => Some(c - 48),
-        97..=102 => Some(c - 87),
-        65..=70 => Some(c - 55),
+        b'0'..=b'9' => Some(c - b'0'),
+        b'a'..=b'f' => Some(c - b'a' + 10),
+        b'A'..=b'F' => Some(c - b'A' + 10),
         _ => None,
     }
 }
@@ -64,22 +57,30 @@ pub fn push_hex(out: &mut Vec<u8>, bytes: &[u8]) -> Result<(), AllocError>
     Ok(())
 }
 
+// The byte of two digits, the first of which is at this place.
+fn read_byte(at: usize, high: u8, low: u8) -> Result<u8, HexFault>
+    requires { at + 1 < 2 ^ 64 }
+    ensures { result ≡ byte_of at (hex_value high) (hex_value low) }
+{
+    let high = hex_value(high).ok_or(HexFault::Digit(at))?;
+    let low = hex_value(low).ok_or(HexFault::Digit(at + 1))?;
+    Ok(16 * high + low)
+}
+
 // The bytes that the digits write.
 pub fn read_hex(heap: Global, text: &[u8]) -> Result<Vec<u8>, HexFault>
     ensures { Unhexed result (unhex text.now) }
 {
     let mut out = Vec::new(heap);
-    for i in 0..text.len() / 2 {
-        let Some(high) = hex_value(text[2 * i]) else {
-            return Err(HexFault::Digit(2 * i));
-        };
-        let Some(low) = hex_value(text[2 * i + 1]) else {
-            return Err(HexFault::Digit(2 * i + 1));
-        };
-        out.push(16 * high + low)?;
+    let mut rest = text;
+    while let [high, low, others @ ..] = rest {
+        let byte = read_byte(text.len() - rest.len(), *high, *low)?;
+        out.push(byte)?;
+        rest = others;
     }
-    if text.len() % 2 == 1 {
-        return Err(HexFault::Odd(text.len() - 1));
+    if rest.is_empty() {
+        Ok(out)
+    } else {
+        Err(HexFault::Odd(text.len() - 1))
     }
-    Ok(out)
 }

@@ -1,5 +1,5 @@
 -- The steps of a loop that reads one thing behind the other: what is still to read, behind what was read, is what there was to read.
-use Rattle.std.proofs.Common.{◌≡◌, ℕ, zero, suc, ◌+◌, ◌-◌, ◌<◌, ◌≤◌, Bool, true, false, List, [], ◌∷◌, ◌++◌, Some, None, Option, sym, refl, ap, ◌∙◌, append_assoc, arith}
+use Rattle.std.proofs.Common.{◌≡◌, ℕ, zero, suc, ◌+◌, ◌-◌, ◌<◌, ◌≤◌, Bool, true, false, List, [], ◌∷◌, ◌++◌, length, Some, None, Option, sym, refl, ap, ◌∙◌, append_assoc, arith}
 use Rattle.std.proofs.lemmas.Bool.{cond-true, cond-false}
 use Rattle.std.proofs.lemmas.List.{append-nil}
 use Rattle.calls.specs.Format.{and_then}
@@ -51,3 +51,45 @@ module _ {A : Type 0} (over : List ℕ → Bool) (one : List ℕ → Option (A �
 pub many_start : {A : Type 0} (over : List ℕ → Bool) (one : List ℕ → Option (A × List ℕ)) (xs : List ℕ) (n : ℕ) →
     many_while over one n xs ≡ before [] (many_while over one (n - 0) xs)
 many_start over one xs n = before_none (many_while over one n xs) ∙ ap (λ (k : ℕ). before [] (many_while over one k xs)) (let e : n ≡ n - 0 = omega arith in e)
+
+-- a loop that goes on until they are over: what is left, by no fewer steps than there are characters
+pub record IsLeft {A : Type 0} (over : List ℕ → Bool) (one : List ℕ → Option (A × List ℕ)) (said : Option (List A × List ℕ)) (ys : List A) (rest : List ℕ) : Type 0 where
+  most : ℕ
+  enough : length rest ≤ most
+  same : said ≡ before ys (many_while over one most rest)
+
+pub left_start : {A : Type 0} (over : List ℕ → Bool) (one : List ℕ → Option (A × List ℕ)) (xs : List ℕ) → IsLeft over one (many_while over one (length xs) xs) [] xs
+left_start over one xs = record { most = length xs; enough = omega arith; same = before_none (many_while over one (length xs) xs) }
+
+module _ {A : Type 0} (over : List ℕ → Bool) (one : List ℕ → Option (A × List ℕ)) (said : Option (List A × List ℕ)) (ys : List A) (rest : List ℕ) where
+  pub left_over : IsLeft over one said ys rest → over rest ≡ true → said ≡ Some (ys, rest)
+  left_over l e = l.same ∙ many_over over one ys rest l.most e
+
+  more_than_none : (xs : List ℕ) → over [] ≡ true → over xs ≡ false → 0 < length xs
+  more_than_none [] f e = cc
+  more_than_none (x ∷ xs) f e = omega arith
+
+  wrong : (most : ℕ) → 0 < most → over rest ≡ false → one rest ≡ None → before ys (many_while over one most rest) ≡ None
+  wrong zero h e w = absurd (omega arith)
+  wrong (suc k) h e w =
+      ap (before ys) (step over one ys rest k e) ∙ ap (λ (o : Option (A × List ℕ)). before ys (and_then o (λ r. and_then (many_while over one k r.1) (λ s. Some (r.0 ∷ s.0, s.1))))) w
+
+  pub left_wrong : IsLeft over one said ys rest → over [] ≡ true → over rest ≡ false → one rest ≡ None → said ≡ None
+  left_wrong l f e w = let some = more_than_none rest f e in l.same ∙ wrong l.most (omega (arith, l.enough)) e w
+
+  more : (most : ℕ) (x : A) (next : List ℕ) → length next < most → over rest ≡ false → one rest ≡ Some (x, next) → said ≡ before ys (many_while over one most rest) →
+      IsLeft over one said (ys ++ (x ∷ [])) next
+  more zero x next h e w s = absurd (omega arith)
+  more (suc k) x next h e w s =
+      record {
+        most = k;
+        enough = omega arith;
+        same =
+            s
+            ∙ (ap (before ys) (step over one ys rest k e)
+            ∙ (ap (λ (o : Option (A × List ℕ)). before ys (and_then o (λ r. and_then (many_while over one k r.1) (λ s. Some (r.0 ∷ s.0, s.1))))) w ∙ before_more ys x (many_while over one k next)));
+      }
+
+  pub left_more : IsLeft over one said ys rest → (x : A) (next : List ℕ) → length next < length rest → over rest ≡ false → one rest ≡ Some (x, next) →
+      IsLeft over one said (ys ++ (x ∷ [])) next
+  left_more l x next h e w = more l.most x next (omega (arith, l.enough)) e w l.same

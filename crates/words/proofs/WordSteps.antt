@@ -1,50 +1,53 @@
--- One character on, in the skipping of spaces and the reading of a word.
-use Rattle.std.proofs.Common.{◌≡◌, ℕ, ◌+◌, ◌<◌, ◌≤◌, true, false, cond, eqb, List, [], ◌∷◌, ◌++◌, length, get_or, take, drop, sym, ap, ◌∙◌, append_assoc}
-use Rattle.std.proofs.lemmas.List.{at_drop_more, at_drop_all, take_more, drop_more, append-nil}
-use Rattle.std.proofs.lemmas.Bool.{eq-eqb, ne_eqb, cond-true, cond-false}
+-- Spaces end where the first other character stands, and a word where the first stands that ends it.
+use Rattle.std.proofs.Common.{◌≡◌, ℕ, suc, ◌+◌, Bool, true, false, cond, not, eqb, List, [], ◌∷◌, take, drop, Some, None, refl, sym, ap, ◌∙◌, arith}
+use Rattle.std.specs.List.{position, position_or_len}
+use Rattle.std.proofs.lemmas.List.{take_all, drop_all}
+use Rattle.text.proofs.WordSteps.{found_at, found_none}
 use Rattle.words.specs.Words.{unspaced, ends, word_of, behind_word}
 
-module _ (xs : List ℕ) (i : ℕ) (more : i < length xs) where
-  space_step : unspaced (drop i xs) ≡ cond (eqb (get_or xs i 0) 32) (unspaced (drop (i + 1) xs)) (get_or xs i 0 ∷ drop (i + 1) xs)
-  unfolding unspaced
-  space_step = at_drop_more unspaced xs i 0 more
+abbrev pub no_space : ℕ → Bool
+no_space c = not (eqb c 32)
 
-  pub space_goes_on : get_or xs i 0 ≡ 32 → unspaced (drop i xs) ≡ unspaced (drop (i + 1) xs)
-  space_goes_on e = space_step ∙ cond-true _ _ _ (eq-eqb _ _ e)
+abbrev pub ender : ℕ → Bool
+ender c = ends false c
 
-  pub spaces_end : (get_or xs i 0 ≡ 32 → ⊥) → unspaced (drop i xs) ≡ drop i xs
-  spaces_end e = space_step ∙ (cond-false _ _ _ (ne_eqb _ _ e) ∙ sym (drop_more xs i 0 more))
-
-  word_step : word_of (drop i xs) ≡ cond (ends false (get_or xs i 0)) [] (get_or xs i 0 ∷ word_of (drop (i + 1) xs))
-  unfolding word_of
-  word_step = at_drop_more word_of xs i 0 more
-
-  behind_step : behind_word (drop i xs) ≡ cond (ends false (get_or xs i 0)) (get_or xs i 0 ∷ drop (i + 1) xs) (behind_word (drop (i + 1) xs))
-  unfolding behind_word
-  behind_step = at_drop_more behind_word xs i 0 more
-
-  pub word_ends : ends false (get_or xs i 0) ≡ true → take i xs ++ word_of (drop i xs) ≡ take i xs
-  word_ends e = ap (λ (w : List ℕ). take i xs ++ w) (word_step ∙ cond-true _ _ _ e) ∙ append-nil (take i xs)
-
-  pub behind_begins : ends false (get_or xs i 0) ≡ true → behind_word (drop i xs) ≡ drop i xs
-  behind_begins e = behind_step ∙ (cond-true _ _ _ e ∙ sym (drop_more xs i 0 more))
-
-  pub word_goes_on : ends false (get_or xs i 0) ≡ false → take i xs ++ word_of (drop i xs) ≡ take (i + 1) xs ++ word_of (drop (i + 1) xs)
-  word_goes_on e =
-      ap (λ (w : List ℕ). take i xs ++ w) (word_step ∙ cond-false _ _ _ e)
-      ∙ (sym (append_assoc (take i xs) (get_or xs i 0 ∷ []) (word_of (drop (i + 1) xs))) ∙ ap (λ (w : List ℕ). w ++ word_of (drop (i + 1) xs)) (sym (take_more xs i 0 more)))
-
-  pub behind_goes_on : ends false (get_or xs i 0) ≡ false → behind_word (drop i xs) ≡ behind_word (drop (i + 1) xs)
-  behind_goes_on e = behind_step ∙ cond-false _ _ _ e
-
-pub spaces_all : (xs : List ℕ) (i : ℕ) → length xs ≤ i → unspaced (drop i xs) ≡ []
+unspaced_is : (xs : List ℕ) → drop (position_or_len no_space xs) xs ≡ unspaced xs
 unfolding unspaced
-spaces_all xs i h = at_drop_all unspaced xs i h
+unspaced_is [] = refl
+unspaced_is (c ∷ cs) = go (eqb c 32) (position_or_len no_space cs) (unspaced_is cs)
+  where
+    go : (b : Bool) (p : ℕ) → drop p cs ≡ unspaced cs → drop (cond (not (not b)) (1 + p) 0) (c ∷ cs) ≡ cond b (unspaced cs) (c ∷ cs)
+    go true p e = ap (λ (n : ℕ). drop n (c ∷ cs)) (let one : 1 + p ≡ suc p = omega arith in one) ∙ e
+    go false p e = refl
 
-pub word_all : (xs : List ℕ) (i : ℕ) → length xs ≤ i → word_of (drop i xs) ≡ []
+word_is : (xs : List ℕ) → take (position_or_len ender xs) xs ≡ word_of xs
 unfolding word_of
-word_all xs i h = at_drop_all word_of xs i h
+word_is [] = refl
+word_is (c ∷ cs) = go (ender c) (position_or_len ender cs) (word_is cs)
+  where
+    go : (b : Bool) (p : ℕ) → take p cs ≡ word_of cs → take (cond (not b) (1 + p) 0) (c ∷ cs) ≡ cond b [] (c ∷ word_of cs)
+    go true p e = refl
+    go false p e = ap (λ (n : ℕ). take n (c ∷ cs)) (let one : 1 + p ≡ suc p = omega arith in one) ∙ ap (λ (ys : List ℕ). c ∷ ys) e
 
-pub behind_none : (xs : List ℕ) (i : ℕ) → length xs ≤ i → behind_word (drop i xs) ≡ []
+behind_is : (xs : List ℕ) → drop (position_or_len ender xs) xs ≡ behind_word xs
 unfolding behind_word
-behind_none xs i h = at_drop_all behind_word xs i h
+behind_is [] = refl
+behind_is (c ∷ cs) = go (ender c) (position_or_len ender cs) (behind_is cs)
+  where
+    go : (b : Bool) (p : ℕ) → drop p cs ≡ behind_word cs → drop (cond (not b) (1 + p) 0) (c ∷ cs) ≡ cond b (c ∷ cs) (behind_word cs)
+    go true p e = refl
+    go false p e = ap (λ (n : ℕ). drop n (c ∷ cs)) (let one : 1 + p ≡ suc p = omega arith in one) ∙ e
+
+pub unspaced_from : (xs : List ℕ) (i : ℕ) → Some i ≡ position no_space xs → drop i xs ≡ unspaced xs
+unspaced_from xs i e = ap (λ (n : ℕ). drop n xs) (sym (found_at no_space xs i e)) ∙ unspaced_is xs
+
+pub unspaced_none : (xs : List ℕ) → None ≡ position no_space xs → [] ≡ unspaced xs
+unspaced_none xs e = sym (drop_all (position_or_len no_space xs) xs (found_none no_space xs e)) ∙ unspaced_is xs
+
+pub word_cut : (xs : List ℕ) (i : ℕ) → Some i ≡ position ender xs → (take i xs ≡ word_of xs) × (drop i xs ≡ behind_word xs)
+word_cut xs i e =
+    let at = found_at ender xs i e in (ap (λ (n : ℕ). take n xs) (sym at) ∙ word_is xs, ap (λ (n : ℕ). drop n xs) (sym at) ∙ behind_is xs)
+
+pub word_whole : (xs : List ℕ) → None ≡ position ender xs → (xs ≡ word_of xs) × ([] ≡ behind_word xs)
+word_whole xs e =
+    let long = found_none ender xs e in (sym (take_all (position_or_len ender xs) xs long) ∙ word_is xs, sym (drop_all (position_or_len ender xs) xs long) ∙ behind_is xs)

@@ -1,5 +1,5 @@
 -- What the values of the code stand for.
-use Rattle.std.specs.Prelude.{◌≡◌, ℕ, List, map, Some, None, Ok, Err, vec_items, Option, Result, Vec}
+use Rattle.std.specs.Prelude.{◌≡◌, ℕ, ◌<◌, List, length, map, Some, None, Ok, Err, vec_items, Option, Result, Vec}
 use Rattle.std.specs.Borrow.{Bor}
 use Rattle.std.specs.declared.alloc.Global.{Global}
 use Rattle.model.specs.Tree as Tree
@@ -40,3 +40,8 @@ abbrev pub Reads : {A B : Type 0} → (A → B) → Result (A × Bor (List ℕ))
 Reads of (Ok r) said = said ≡ Some (of r.0, r.1.now)
 Reads of (Err (Wrong w)) said = said ≡ None
 Reads of (Err Memory) said = Unit {0}
+
+-- what is behind a thing that was read is less than all
+abbrev pub IsLess : {A : Type 0} → Option (A × Bor (List ℕ)) → List ℕ → Type 0
+IsLess None text = Unit {0}
+IsLess (Some r) text = length r.1.now < length text

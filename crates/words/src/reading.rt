@@ -1,8 +1,8 @@
 // Readers of a text's front: each hands on what it read, and the text behind it.
-ghost use Rattle.std.specs.Prelude.{◌≡◌, vec_items};
+ghost use Rattle.std.specs.Prelude.{◌≡◌, ◌<◌, ◌≤◌, length, vec_items, IfOk};
 ghost use Rattle.std.specs.Option.{option_map};
 ghost use Rattle.calls.specs.Reading.{behind};
-ghost use Rattle.words.specs.Values.{Reads, name_of, path_of};
+ghost use Rattle.words.specs.Values.{IsLess, Reads, name_of, path_of};
 ghost use Rattle.words.specs.Words.{unspaced, ends, word_of, behind_word, key_at, is_mark, mark_at, number_at, hex_at, escaped_at, char_at, is_over, chars_at, value_at, name_at, no_slash, slash_name, names_at, is_top, path_from, path_at};
 
 use crate::types::{Fault, Name, Path, Wrong};
@@ -14,12 +14,10 @@ use text::words::is;
 pub fn skip_spaces(text: &[u8]) -> &[u8]
     ensures { result.now ≡ unspaced text.now }
 {
-    for (i, c) in text.iter().enumerate() {
-        if *c != b' ' {
-            return &text[i..];
-        }
+    match text.iter().position(|c| *c != b' ') {
+        Some(i) => &text[i..],
+        None => &[],
     }
-    &[]
 }
 
 pub fn is_end(quoted: bool, c: u8) -> bool
@@ -32,35 +30,21 @@ pub fn is_end(quoted: bool, c: u8) -> bool
     }
 }
 
-#[derive(Clone, Copy)]
-pub struct Word<'a> {
-    pub word: &'a [u8],
-    pub rest: &'a [u8],
-}
-
-// The first word; it may be empty.
-pub fn read_word(text: &[u8]) -> Word<'_>
-    ensures word { result.word.now ≡ word_of (unspaced text.now) }
-    ensures rest { result.rest.now ≡ behind_word (unspaced text.now) }
+// The first word, which may be empty, and what is behind it.
+pub fn read_word(text: &[u8]) -> (&[u8], &[u8])
+    ensures word { result.0.now ≡ word_of (unspaced text.now) }
+    ensures rest { result.1.now ≡ behind_word (unspaced text.now) }
 {
     cut_word(skip_spaces(text))
 }
 
-fn cut_word(text: &[u8]) -> Word<'_>
-    ensures word { result.word.now ≡ word_of text.now }
-    ensures rest { result.rest.now ≡ behind_word text.now }
+fn cut_word(text: &[u8]) -> (&[u8], &[u8])
+    ensures word { result.0.now ≡ word_of text.now }
+    ensures rest { result.1.now ≡ behind_word text.now }
 {
-    for (i, c) in text.iter().enumerate() {
-        if is_end(false, *c) {
-            return Word {
-                word: &text[0..i],
-                rest: &text[i..],
-            };
-        }
-    }
-    Word {
-        word: text,
-        rest: &[],
+    match text.iter().position(|c| is_end(false, *c)) {
+        Some(i) => text.split_at(i),
+        None => (text, &[]),
     }
 }
 
@@ -68,12 +52,8 @@ fn cut_word(text: &[u8]) -> Word<'_>
 pub fn read_key<'a>(text: &'a [u8], key: &str) -> Option<&'a [u8]>
     ensures { option_map (λ x. x.now) result ≡ key_at key.now text.now }
 {
-    let read = read_word(text);
-    if is(read.word, key) {
-        Some(read.rest)
-    } else {
-        None
-    }
+    let (word, rest) = read_word(text);
+    if is(word, key) { Some(rest) } else { None }
 }
 
 fn after_mark(text: &[u8], mark: u8) -> Option<&[u8]>
@@ -95,57 +75,42 @@ pub fn read_mark(text: &[u8], mark: u8) -> Option<&[u8]>
 pub fn read_number(text: &[u8]) -> Option<(u64, &[u8])>
     ensures { option_map behind result ≡ number_at text.now }
 {
-    let read = read_word(text);
-    match read_decimal(read.word) {
-        Ok(n) => Some((n, read.rest)),
-        Err(_) => None,
-    }
+    let (word, rest) = read_word(text);
+    Some((read_decimal(word).ok()?, rest))
 }
 
 // A byte of two hexadecimal digits.
 fn read_hex(text: &[u8]) -> Option<(u8, &[u8])>
-    ensures { option_map behind result ≡ hex_at text.now }
+    ensures value { option_map behind result ≡ hex_at text.now }
+    ensures less { IsLess result text.now }
 {
-    let Some((a, rest)) = text.split_first() else {
-        return None;
-    };
-    let Some((b, rest)) = rest.split_first() else {
-        return None;
-    };
-    let Some(high) = hex_value(*a) else {
-        return None;
-    };
-    let Some(low) = hex_value(*b) else {
-        return None;
-    };
-    Some((16 * high + low, rest))
+    match text {
+        [high, low, rest @ ..] => Some((16 * hex_value(*high)? + hex_value(*low)?, rest)),
+        _ => None,
+    }
 }
 
 // What stands behind a backslash.
 fn read_escaped(text: &[u8]) -> Option<(u8, &[u8])>
-    ensures { option_map behind result ≡ escaped_at text.now }
+    ensures value { option_map behind result ≡ escaped_at text.now }
+    ensures less { IsLess result text.now }
 {
-    let Some((c, rest)) = text.split_first() else {
-        return None;
-    };
-    match *c {
-        b'x' => read_hex(rest),
-        b'n' => Some((b'\n', rest)),
-        b'"' | b'\\' => Some((*c, rest)),
+    match text {
+        [b'x', rest @ ..] => read_hex(rest),
+        [b'n', rest @ ..] => Some((b'\n', rest)),
+        [c @ (b'"' | b'\\'), rest @ ..] => Some((*c, rest)),
         _ => None,
     }
 }
 
 fn read_char(text: &[u8]) -> Option<(u8, &[u8])>
-    ensures { option_map behind result ≡ char_at text.now }
+    ensures value { option_map behind result ≡ char_at text.now }
+    ensures less { IsLess result text.now }
 {
-    let Some((c, rest)) = text.split_first() else {
-        return None;
-    };
-    if *c == b'\\' {
-        read_escaped(rest)
-    } else {
-        Some((*c, rest))
+    match text {
+        [b'\\', rest @ ..] => read_escaped(rest),
+        [c, rest @ ..] => Some((*c, rest)),
+        [] => None,
     }
 }
 
@@ -160,17 +125,13 @@ fn is_over(text: &[u8], quoted: bool) -> bool
 
 // Characters up to one that ends them.
 fn read_chars(heap: Global, text: &[u8], quoted: bool) -> Result<(Vec<u8>, &[u8]), Fault>
-    ensures { Reads vec_items result (chars_at quoted text.now) }
+    ensures value { Reads vec_items result (chars_at quoted text.now) }
+    ensures within { IfOk result (λ r. length r.1.now ≤ length text.now) }
 {
     let mut chars = Vec::new(heap);
     let mut rest = text;
-    for _ in 0..text.len() {
-        if is_over(rest, quoted) {
-            return Ok((chars, rest));
-        }
-        let Some((c, next)) = read_char(rest) else {
-            return Err(Fault::Wrong(Wrong::Escape));
-        };
+    while !is_over(rest, quoted) {
+        let (c, next) = read_char(rest).ok_or(Wrong::Escape)?;
         chars.push(c)?;
         rest = next;
     }
@@ -181,18 +142,15 @@ fn read_chars(heap: Global, text: &[u8], quoted: bool) -> Result<(Vec<u8>, &[u8]
 pub fn read_value(heap: Global, text: &[u8]) -> Result<(Vec<u8>, &[u8]), Fault>
     ensures { Reads vec_items result (value_at text.now) }
 {
-    let Some(inner) = read_mark(text, b'"') else {
-        return Err(Fault::Wrong(Wrong::Value));
-    };
+    let inner = read_mark(text, b'"').ok_or(Wrong::Value)?;
     let (value, rest) = read_chars(heap, inner, true)?;
-    let Some(rest) = after_mark(rest, b'"') else {
-        return Err(Fault::Wrong(Wrong::Value));
-    };
+    let rest = after_mark(rest, b'"').ok_or(Wrong::Value)?;
     Ok((value, rest))
 }
 
 fn read_name(heap: Global, text: &[u8]) -> Result<(Name, &[u8]), Fault>
-    ensures { Reads name_of result (name_at text.now) }
+    ensures value { Reads name_of result (name_at text.now) }
+    ensures within { IfOk result (λ r. length r.1.now ≤ length text.now) }
 {
     let (name, rest) = read_chars(heap, text, false)?;
     if name.is_empty() {
@@ -208,11 +166,10 @@ fn no_slash(text: &[u8]) -> bool
 }
 
 fn slash_name(heap: Global, text: &[u8]) -> Result<(Name, &[u8]), Fault>
-    ensures { Reads name_of result (slash_name text.now) }
+    ensures value { Reads name_of result (slash_name text.now) }
+    ensures less { IfOk result (λ r. length r.1.now < length text.now) }
 {
-    let Some(rest) = after_mark(text, b'/') else {
-        return Err(Fault::Wrong(Wrong::Path));
-    };
+    let rest = after_mark(text, b'/').ok_or(Wrong::Path)?;
     read_name(heap, rest)
 }
 
@@ -222,10 +179,7 @@ fn read_names(heap: Global, text: &[u8]) -> Result<(Path, &[u8]), Fault>
 {
     let mut names = Vec::new(heap);
     let mut rest = text;
-    for _ in 0..text.len() {
-        if no_slash(rest) {
-            return Ok((Path(names), rest));
-        }
+    while !no_slash(rest) {
         let (name, next) = slash_name(heap, rest)?;
         names.push(name)?;
         rest = next;
@@ -246,9 +200,7 @@ fn is_top(text: &[u8]) -> bool
 fn path_from(heap: Global, text: &[u8]) -> Result<(Path, &[u8]), Fault>
     ensures { Reads path_of result (path_from text.now) }
 {
-    let Some(rest) = after_mark(text, b'/') else {
-        return Err(Fault::Wrong(Wrong::Path));
-    };
+    let rest = after_mark(text, b'/').ok_or(Wrong::Path)?;
     if is_top(text) {
         return Ok((Path(Vec::new(heap)), rest));
     }

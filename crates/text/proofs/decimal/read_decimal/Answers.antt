@@ -4,8 +4,8 @@ use Rattle.std.proofs.lemmas.Bool.Decides.{nat_tests}
 use Rattle.text.proofs.DecimalSteps.{digit_step, digits_end}
 use Rattle.text.proofs.decimal.read_decimal.Goals as goal
 
-pub returns-then-c-lt48 : goal.returns-then-c-lt48
-returns-then-c-lt48 c = let s = digit_step c.args.text.now c.loop-i.i c.loop-i.n c.loop-i-test.true in grind (arith, nat_tests)
+pub returns-then-not-is_ascii_digit : goal.returns-then-not-is_ascii_digit
+returns-then-not-is_ascii_digit c = let s = digit_step c.args.text.now c.loop-i.i c.loop-i.n c.loop-i-test.true in grind (arith, nat_tests)
 
 pub returns-then-n-digit : goal.returns-then-n-digit
 returns-then-n-digit c = let s = digit_step c.args.text.now c.loop-i.i c.loop-i.n c.loop-i-test.true in grind (arith, nat_tests)

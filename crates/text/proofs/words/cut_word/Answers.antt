@@ -1,33 +1,23 @@
--- Each way out, and each turn, is one step of the definitions.
-use Rattle.std.proofs.Common.{◌≡◌, ℕ, ◌+◌, ◌-◌, List, ◌++◌, take, sym, ap, ◌∙◌, arith}
-use Rattle.std.proofs.lemmas.List.{take_all, take_rest, append-nil}
-use Rattle.text.proofs.WordSteps.{word_ends, rest_begins, word_goes_on, rest_goes_on, word_all, rest_none}
+-- The place of the first space is where the word ends.
+use Rattle.std.proofs.Common.{◌+◌, rules, tests, ◌∙◌}
+use Rattle.std.proofs.lemmas.Iterator.{YieldsList-from_slice}
+use Rattle.std.proofs.lemmas.Iterator.Search.{position_from_yields_List}
+use Rattle.std.proofs.lemmas.List.{take_rest}
+use Rattle.text.proofs.WordSteps.{space, word_cut, word_whole}
 use Rattle.text.proofs.words.cut_word.Goals as goal
 
-pub returns-then-c-eq32 : goal.returns-then-c-eq32
-returns-then-c-eq32 c =
-    record {
-      word =
-          ap (λ (n : ℕ). take n c.args.line.now) (let e : c.loop-i.i - 0 ≡ c.loop-i.i = omega arith in e)
-          ∙ sym (c.loop-i.invariant.0 ∙ word_ends c.args.line.now c.loop-i.i c.loop-i-test.true c.if-c-eq32.true);
-      rest =
-          take_rest c.args.line.now (c.loop-i.i + 1)
-          ∙ sym (c.loop-i.invariant.1 ∙ rest_begins c.args.line.now c.loop-i.i c.loop-i-test.true c.if-c-eq32.true);
-    }
+pub returns-in-Some-clause-word : goal.returns-in-Some-clause-word
+returns-in-Some-clause-word c =
+    (word_cut c.args.line.now c.in-Some.i (position_from_yields_List space _ _ _ c.in-Some.ensures.ran (YieldsList-from_slice _ c.iter.ensures.rest) (λ x b q k. search (rules, tests)))).0
 
-pub loop-i-preserved : goal.loop-i-preserved
-loop-i-preserved c = (
-  c.loop-i.invariant.0 ∙ word_goes_on c.args.line.now c.loop-i.i c.loop-i-test.true c.if-c-eq32.false,
-  c.loop-i.invariant.1 ∙ rest_goes_on c.args.line.now c.loop-i.i c.loop-i-test.true c.if-c-eq32.false,
-)
+pub returns-in-Some-clause-rest : goal.returns-in-Some-clause-rest
+returns-in-Some-clause-rest c =
+    take_rest c.args.line.now (c.in-Some.i + 1) ∙ (word_cut c.args.line.now c.in-Some.i (position_from_yields_List space _ _ _ c.in-Some.ensures.ran (YieldsList-from_slice _ c.iter.ensures.rest) (λ x b q k. search (rules, tests)))).1
 
-pub returns : goal.returns
-returns c =
-    record {
-      word =
-          sym
-          (c.loop-i.invariant.0
-          ∙ (ap (λ (w : List ℕ). take c.loop-i.i c.args.line.now ++ w) (word_all c.args.line.now c.loop-i.i c.loop-i-test.false)
-          ∙ (append-nil _ ∙ take_all c.loop-i.i c.args.line.now c.loop-i-test.false)));
-      rest = sym (c.loop-i.invariant.1 ∙ rest_none c.args.line.now c.loop-i.i c.loop-i-test.false);
-    }
+pub returns-in-None-clause-word : goal.returns-in-None-clause-word
+returns-in-None-clause-word c =
+    (word_whole c.args.line.now (position_from_yields_List space _ _ _ c.in-None.ensures.ran (YieldsList-from_slice _ c.iter.ensures.rest) (λ x b q k. search (rules, tests)))).0
+
+pub returns-in-None-clause-rest : goal.returns-in-None-clause-rest
+returns-in-None-clause-rest c =
+    (word_whole c.args.line.now (position_from_yields_List space _ _ _ c.in-None.ensures.ran (YieldsList-from_slice _ c.iter.ensures.rest) (λ x b q k. search (rules, tests)))).1

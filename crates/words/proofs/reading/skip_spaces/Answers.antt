@@ -1,16 +1,16 @@
--- Each way out, and each turn, is one step of the definition.
-use Rattle.std.proofs.Common.{sym, ◌∙◌}
+-- The place of the first character that is no space is where the spaces end.
+use Rattle.std.proofs.Common.{rules, tests, ◌∙◌}
+use Rattle.std.proofs.lemmas.Iterator.{YieldsList-from_slice}
+use Rattle.std.proofs.lemmas.Iterator.Search.{position_from_yields_List}
 use Rattle.std.proofs.lemmas.List.{take_rest}
-use Rattle.words.proofs.WordSteps.{space_goes_on, spaces_end, spaces_all}
+use Rattle.words.proofs.WordSteps.{no_space, unspaced_from, unspaced_none}
 use Rattle.words.proofs.reading.skip_spaces.Goals as goal
 
-pub returns-then-c-ne32 : goal.returns-then-c-ne32
-returns-then-c-ne32 c =
-    take_rest c.args.text.now c.loop-i.i
-    ∙ sym (c.loop-i.invariant ∙ spaces_end c.args.text.now c.loop-i.i c.loop-i-test.true c.if-c-ne32.true)
+pub returns-in-Some : goal.returns-in-Some
+returns-in-Some c =
+    take_rest c.args.text.now c.in-Some.i
+    ∙ unspaced_from c.args.text.now c.in-Some.i (position_from_yields_List no_space _ _ _ c.in-Some.ensures.ran (YieldsList-from_slice _ c.iter.ensures.rest) (λ x b q k. search (rules, tests)))
 
-pub loop-i-preserved : goal.loop-i-preserved
-loop-i-preserved c = c.loop-i.invariant ∙ space_goes_on c.args.text.now c.loop-i.i c.loop-i-test.true c.if-c-ne32.false
-
-pub returns : goal.returns
-returns c = sym (c.loop-i.invariant ∙ spaces_all c.args.text.now c.loop-i.i c.loop-i-test.false)
+pub returns-in-None : goal.returns-in-None
+returns-in-None c =
+    unspaced_none c.args.text.now (position_from_yields_List no_space _ _ _ c.in-None.ensures.ran (YieldsList-from_slice _ c.iter.ensures.rest) (λ x b q k. search (rules, tests)))
