@@ -2,8 +2,13 @@
 -- one of these alone, or `do { ACT; ACT }`, `look PATH`, `kids PATH`, `open`, `end S`.
 use Rattle.std.specs.Prelude.{ℕ, Bool, true, false, cond, List, [], ◌∷◌, length, is_some, Some, None, codes, Option}
 use Rattle.std.specs.Str.{bytes_eq}
+use Rattle.model.specs.Tree as Tree
 use Rattle.model.specs.Tree.{Expect, Any, Version, Act, Make, Put, Drop, Check, Call, Do, Look, Kids, Open, End}
+use Rattle.calls.specs.declared.types.Expected.{Expected}
 use Rattle.calls.specs.Format.{and_then}
+use Rattle.calls.specs.Reading.{expect_of}
+use Rattle.words.specs.declared.types.Path.{Path}
+use Rattle.words.specs.Values.{path_of}
 use Rattle.words.specs.Words.{unspaced, word_of, behind_word, key_at, mark_at, number_at, value_at, path_at, many_while}
 
 abbrev pub version_by : Option (List ℕ) → List ℕ → Option (Expect × List ℕ)
@@ -34,15 +39,24 @@ make_at xs =
 abbrev pub put_at : List ℕ → Option (Act × List ℕ)
 put_at xs = and_then (path_at xs) (λ p. and_then (value_at p.1) (λ v. and_then (version_at v.1) (λ x. Some (Put p.0 v.0 x.0, x.1))))
 
+abbrev pub expecting_of : Path × Expected → Tree.Path × Expect
+expecting_of r = (path_of r.0, expect_of r.1)
+
+-- a path, and the version that its entry is expected to have
+abbrev pub expecting_at : List ℕ → Option ((Tree.Path × Expect) × List ℕ)
+expecting_at xs = and_then (path_at xs) (λ p. and_then (version_at p.1) (λ x. Some ((p.0, x.0), x.1)))
+
 abbrev pub drop_act_at : List ℕ → Option (Act × List ℕ)
 drop_act_at xs = and_then (path_at xs) (λ p. and_then (version_at p.1) (λ x. Some (Drop p.0 x.0, x.1)))
 
 abbrev pub check_at : List ℕ → Option (Act × List ℕ)
 check_at xs = and_then (path_at xs) (λ p. and_then (version_at p.1) (λ x. Some (Check p.0 x.0, x.1)))
 
-abbrev pub act_by : (word rest : List ℕ) → Option (Act × List ℕ)
-act_by w r =
-    cond (bytes_eq w (codes "make")) (make_at r) (cond (bytes_eq w (codes "put")) (put_at r) (cond (bytes_eq w (codes "drop")) (drop_act_at r) (cond (bytes_eq w (codes "check")) (check_at r) None)))
+abbrev pub valueless_by : (name rest : List ℕ) → Option (Act × List ℕ)
+valueless_by w r = cond (bytes_eq w (codes "drop")) (drop_act_at r) (cond (bytes_eq w (codes "check")) (check_at r) None)
+
+abbrev pub act_by : (name rest : List ℕ) → Option (Act × List ℕ)
+act_by w r = cond (bytes_eq w (codes "make")) (make_at r) (cond (bytes_eq w (codes "put")) (put_at r) (valueless_by w r))
 
 abbrev pub act_at : List ℕ → Option (Act × List ℕ)
 act_at xs = act_by (word_of (unspaced xs)) (behind_word (unspaced xs))
@@ -69,14 +83,18 @@ braced_at xs = and_then (mark_at 123 xs) (λ r. and_then (acts_at r) (λ a. and_
 abbrev pub lone_at : List ℕ → Option (Call × List ℕ)
 lone_at xs = and_then (act_at xs) (λ a. Some (Do (a.0 ∷ []), a.1))
 
+abbrev pub looking_by : (word rest : List ℕ) → List ℕ → Option (Call × List ℕ)
+looking_by w r xs =
+    cond (bytes_eq w (codes "look")) (and_then (path_at r) (λ p. Some (Look p.0, p.1)))
+    (cond (bytes_eq w (codes "kids")) (and_then (path_at r) (λ p. Some (Kids p.0, p.1)))
+    (lone_at xs))
+
 abbrev pub call_by : (word rest : List ℕ) → List ℕ → Option (Call × List ℕ)
 call_by w r xs =
     cond (bytes_eq w (codes "do")) (and_then (braced_at r) (λ a. Some (Do a.0, a.1)))
-    (cond (bytes_eq w (codes "look")) (and_then (path_at r) (λ p. Some (Look p.0, p.1)))
-    (cond (bytes_eq w (codes "kids")) (and_then (path_at r) (λ p. Some (Kids p.0, p.1)))
     (cond (bytes_eq w (codes "open")) (Some (Open, r))
     (cond (bytes_eq w (codes "end")) (and_then (number_at r) (λ k. Some (End k.0, k.1)))
-    (lone_at xs)))))
+    (looking_by w r xs)))
 
 abbrev pub call_at : List ℕ → Option (Call × List ℕ)
 call_at xs = call_by (word_of (unspaced xs)) (behind_word (unspaced xs)) xs

@@ -5,26 +5,25 @@ ghost use Rattle.std.specs.Prelude.{◌≡◌};
 ghost use Rattle.std.specs.Option.{option_map};
 ghost use Rattle.calls.specs.Reading.{behind, expect_read};
 ghost use Rattle.words.specs.Values.{Reads, act_of, acts_of, call_of};
-ghost use Rattle.phrases.specs.Acts.{version_at, numbered_at, session_at, make_at, put_at, drop_act_at, check_at, act_at, piece_at, at_brace, acts_at, braced_at, lone_at, call_at};
+ghost use Rattle.phrases.specs.Acts.{version_at, numbered_at, session_at, make_at, put_at, expecting_at, expecting_of, valueless_by, act_by, act_at, piece_at, at_brace, acts_at, braced_at, lone_at, looking_by, call_by, call_at};
 
 use calls::types::Expected;
 use lent_bytes::counts::{Session, Version};
 use std::alloc::Global;
-use text::words::is;
 use words::reading::{read_key, read_mark, read_number, read_path, read_value, read_word};
-use words::types::{Act, Call, Fault, Wrong};
+use words::types::{Act, Call, Fault, Path, Wrong};
 
 // The version that is expected; any where none is named.
 fn read_version(text: &[u8]) -> Option<(Expected, &[u8])>
     ensures { option_map expect_read result ≡ version_at text.now }
 {
-    let Some(rest) = read_key(text, "version") else {
-        return Some((Expected::Any, text));
-    };
-    let Some((version, rest)) = read_number(rest) else {
-        return None;
-    };
-    Some((Expected::Exactly(Version(version)), rest))
+    match read_key(text, "version") {
+        Some(rest) => {
+            let (version, rest) = read_number(rest)?;
+            Some((Expected::Exactly(Version(version)), rest))
+        }
+        None => Some((Expected::Any, text)),
+    }
 }
 
 fn read_numbered(text: &[u8]) -> (bool, &[u8])
@@ -52,9 +51,7 @@ fn read_make(heap: Global, text: &[u8]) -> Result<(Act, &[u8]), Fault>
     let (path, rest) = read_path(heap, text)?;
     let (value, rest) = read_value(heap, rest)?;
     let (numbered, rest) = read_numbered(rest);
-    let Some((session, rest)) = read_session(rest) else {
-        return Err(Fault::Wrong(Wrong::Number));
-    };
+    let (session, rest) = read_session(rest).ok_or(Wrong::Number)?;
     let act = Act::Make {
         path,
         value,
@@ -69,56 +66,57 @@ fn read_put(heap: Global, text: &[u8]) -> Result<(Act, &[u8]), Fault>
 {
     let (path, rest) = read_path(heap, text)?;
     let (value, rest) = read_value(heap, rest)?;
-    let Some((expected, rest)) = read_version(rest) else {
-        return Err(Fault::Wrong(Wrong::Number));
+    let (expected, rest) = read_version(rest).ok_or(Wrong::Number)?;
+    let act = Act::Put {
+        path,
+        value,
+        expected,
     };
-    Ok((
-        Act::Put {
-            path,
-            value,
-            expected,
-        },
-        rest,
-    ))
+    Ok((act, rest))
 }
 
-fn read_drop(heap: Global, text: &[u8]) -> Result<(Act, &[u8]), Fault>
-    ensures { Reads act_of result (drop_act_at text.now) }
+// A path, and the version that its entry is expected to have.
+fn read_expecting(heap: Global, text: &[u8]) -> Result<((Path, Expected), &[u8]), Fault>
+    ensures { Reads expecting_of result (expecting_at text.now) }
 {
     let (path, rest) = read_path(heap, text)?;
-    let Some((expected, rest)) = read_version(rest) else {
-        return Err(Fault::Wrong(Wrong::Number));
-    };
-    Ok((Act::Drop { path, expected }, rest))
+    let (expected, rest) = read_version(rest).ok_or(Wrong::Number)?;
+    Ok(((path, expected), rest))
 }
 
-fn read_check(heap: Global, text: &[u8]) -> Result<(Act, &[u8]), Fault>
-    ensures { Reads act_of result (check_at text.now) }
+// An act with no value, of this name.
+fn read_valueless<'a>(heap: Global, name: &[u8], text: &'a [u8]) -> Result<(Act, &'a [u8]), Fault>
+    ensures { Reads act_of result (valueless_by name.now text.now) }
 {
-    let (path, rest) = read_path(heap, text)?;
-    let Some((expected, rest)) = read_version(rest) else {
-        return Err(Fault::Wrong(Wrong::Number));
-    };
-    Ok((Act::Check { path, expected }, rest))
+    match name {
+        b"drop" => {
+            let ((path, expected), rest) = read_expecting(heap, text)?;
+            Ok((Act::Drop { path, expected }, rest))
+        }
+        b"check" => {
+            let ((path, expected), rest) = read_expecting(heap, text)?;
+            Ok((Act::Check { path, expected }, rest))
+        }
+        _ => Err(Fault::Wrong(Wrong::Act)),
+    }
+}
+
+// The act of this name.
+fn read_named<'a>(heap: Global, name: &[u8], text: &'a [u8]) -> Result<(Act, &'a [u8]), Fault>
+    ensures { Reads act_of result (act_by name.now text.now) }
+{
+    match name {
+        b"make" => read_make(heap, text),
+        b"put" => read_put(heap, text),
+        _ => read_valueless(heap, name, text),
+    }
 }
 
 fn read_act(heap: Global, text: &[u8]) -> Result<(Act, &[u8]), Fault>
     ensures { Reads act_of result (act_at text.now) }
 {
-    let read = read_word(text);
-    if is(read.word, "make") {
-        return read_make(heap, read.rest);
-    }
-    if is(read.word, "put") {
-        return read_put(heap, read.rest);
-    }
-    if is(read.word, "drop") {
-        return read_drop(heap, read.rest);
-    }
-    if is(read.word, "check") {
-        return read_check(heap, read.rest);
-    }
-    Err(Fault::Wrong(Wrong::Act))
+    let (name, rest) = read_word(text);
+    read_named(heap, name, rest)
 }
 
 fn at_brace(text: &[u8]) -> bool
@@ -147,6 +145,7 @@ fn read_acts(heap: Global, text: &[u8]) -> Result<(Vec<Act>, &[u8]), Fault>
 {
     let mut acts = Vec::new(heap);
     let mut rest = text;
+    // kept: at the text's end no } comes and no act, and `do {` is refused for its braces, so the acts are counted
     for _ in 0..text.len() {
         if at_brace(rest) {
             return Ok((acts, rest));
@@ -161,13 +160,9 @@ fn read_acts(heap: Global, text: &[u8]) -> Result<(Vec<Act>, &[u8]), Fault>
 fn read_braced(heap: Global, text: &[u8]) -> Result<(Vec<Act>, &[u8]), Fault>
     ensures { Reads acts_of result (braced_at text.now) }
 {
-    let Some(inner) = read_mark(text, b'{') else {
-        return Err(Fault::Wrong(Wrong::Braces));
-    };
+    let inner = read_mark(text, b'{').ok_or(Wrong::Braces)?;
     let (acts, rest) = read_acts(heap, inner)?;
-    let Some(rest) = read_mark(rest, b'}') else {
-        return Err(Fault::Wrong(Wrong::Braces));
-    };
+    let rest = read_mark(rest, b'}').ok_or(Wrong::Braces)?;
     Ok((acts, rest))
 }
 
@@ -181,30 +176,55 @@ fn read_lone(heap: Global, text: &[u8]) -> Result<(Call, &[u8]), Fault>
     Ok((Call::Do(acts), rest))
 }
 
+// A call that only looks, or one act alone.
+fn read_looking<'a>(
+    heap: Global,
+    word: &[u8],
+    rest: &'a [u8],
+    text: &'a [u8],
+) -> Result<(Call, &'a [u8]), Fault>
+    ensures { Reads call_of result (looking_by word.now rest.now text.now) }
+{
+    match word {
+        b"look" => {
+            let (path, rest) = read_path(heap, rest)?;
+            Ok((Call::Look(path), rest))
+        }
+        b"kids" => {
+            let (path, rest) = read_path(heap, rest)?;
+            Ok((Call::Kids(path), rest))
+        }
+        _ => read_lone(heap, text),
+    }
+}
+
+// The call that begins with this word, or one act alone.
+fn read_begun<'a>(
+    heap: Global,
+    word: &[u8],
+    rest: &'a [u8],
+    text: &'a [u8],
+) -> Result<(Call, &'a [u8]), Fault>
+    ensures { Reads call_of result (call_by word.now rest.now text.now) }
+{
+    match word {
+        b"do" => {
+            let (acts, rest) = read_braced(heap, rest)?;
+            Ok((Call::Do(acts), rest))
+        }
+        b"open" => Ok((Call::Open, rest)),
+        b"end" => {
+            let (session, rest) = read_number(rest).ok_or(Wrong::Number)?;
+            Ok((Call::End(Session(session)), rest))
+        }
+        _ => read_looking(heap, word, rest, text),
+    }
+}
+
+// A call, and what is behind it.
 pub fn read_call(heap: Global, text: &[u8]) -> Result<(Call, &[u8]), Fault>
     ensures { Reads call_of result (call_at text.now) }
 {
-    let read = read_word(text);
-    if is(read.word, "do") {
-        let (acts, rest) = read_braced(heap, read.rest)?;
-        return Ok((Call::Do(acts), rest));
-    }
-    if is(read.word, "look") {
-        let (path, rest) = read_path(heap, read.rest)?;
-        return Ok((Call::Look(path), rest));
-    }
-    if is(read.word, "kids") {
-        let (path, rest) = read_path(heap, read.rest)?;
-        return Ok((Call::Kids(path), rest));
-    }
-    if is(read.word, "open") {
-        return Ok((Call::Open, read.rest));
-    }
-    if is(read.word, "end") {
-        let Some((session, rest)) = read_number(read.rest) else {
-            return Err(Fault::Wrong(Wrong::Number));
-        };
-        return Ok((Call::End(Session(session)), rest));
-    }
-    read_lone(heap, text)
+    let (word, rest) = read_word(text);
+    read_begun(heap, word, rest, text)
 }
