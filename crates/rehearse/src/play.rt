@@ -11,7 +11,7 @@ use encoding::push_call as push_bytes;
 use replies::push_answer;
 use script::houses::{Forbidden, Houses};
 use script::incarnations::choose;
-use script::lines::{Command, Link, Which};
+use script::lines::{Command, Link};
 use script::network::{Letter, copies, part};
 use spelling::wording::push_call;
 use std::alloc::{AllocError, Global};
@@ -58,21 +58,22 @@ fn play_call(rt: &HostRuntime, scene: &Scene, house: u8, call: &Call) -> anyhow:
     Ok(write_line(rt, &line)?)
 }
 
-fn play_beat(houses: Houses, which: Which) {
+// One house's clock, or all of them, where they are up.
+fn play_beat(houses: Houses, which: Option<u8>) {
     match which {
-        Which::One(house) => {
+        Some(house) => {
             if houses.is_up(house) {
                 beat(house);
             }
         }
-        Which::All => (0..houses.all)
+        None => (0..houses.all)
             .filter(|house| houses.is_up(*house))
             .for_each(beat),
     }
 }
 
 // The letters of a link, which are under way no more.
-fn take_letters(heap: Global, scene: &mut Scene, link: Link) -> Result<Vec<Letter>, AllocError>
+fn take_letters(heap: Global, scene: &mut Scene, link: Option<Link>) -> Result<Vec<Letter>, AllocError>
     ensures { OnOk result (scene.new.drawn.items ≡ scene.old.drawn.items) }
 {
     let letters = std::mem::replace(&mut scene.letters, Vec::new(heap));

@@ -7,9 +7,6 @@ use Rattle.calls.specs.Format.{and_then}
 use Rattle.words.specs.declared.types.Fault.{Fault}
 use Rattle.words.specs.declared.types.Fault.TheVariants.{Memory, Wrong}
 use Rattle.script.specs.declared.lines.Link.{Link}
-use Rattle.script.specs.declared.lines.Link.TheVariants as link
-use Rattle.script.specs.declared.lines.Which.{Which}
-use Rattle.script.specs.declared.lines.Which.TheVariants as which
 use Rattle.script.specs.declared.lines.Command.{Command}
 use Rattle.script.specs.declared.lines.Command.TheVariants as command
 use Rattle.words.specs.Values.{call_of}
@@ -21,10 +18,10 @@ pub data Line : Type 0 where
   Nothing : Line
   Houses : (count : ℕ) → (room : Option ℕ) → Line
   At : (house : ℕ) → Call → Line
-  Beat : Which → Line
-  Pass : Link → Line
-  Lose : Link → Line
-  Twice : Link → Line
+  Beat : (house : Option ℕ) → Line
+  Pass : Option Link → Line
+  Lose : Option Link → Line
+  Twice : Option Link → Line
   Fall : (house : ℕ) → Line
   Wake : (house : ℕ) → (incarnation : Option ℕ) → Line
   Run : (seed steps : ℕ) → Line
@@ -55,14 +52,15 @@ at_end xs = is_out (unspaced xs)
 abbrev pub house_at : List ℕ → Option (ℕ × List ℕ)
 house_at xs = and_then (number_at xs) (λ n. cond (nat_lt n.0 7) (Some (n.0, n.1)) None)
 
-abbrev pub which_at : List ℕ → Option (Which × List ℕ)
-which_at xs = cond (at_end xs) (Some (which.All, xs)) (and_then (house_at xs) (λ i. Some (which.One i.0, i.1)))
-
 abbrev pub link_at : List ℕ → Option (Link × List ℕ)
-link_at xs = cond (at_end xs) (Some (link.All, xs)) (and_then (house_at xs) (λ i. and_then (house_at i.1) (λ j. Some (link.One i.0 j.0, j.1))))
+link_at xs = and_then (house_at xs) (λ i. and_then (house_at i.1) (λ j. Some (record { from = i.0; to = j.0 }, j.1)))
 
-abbrev pub maybe_at : List ℕ → Option (Option ℕ × List ℕ)
-maybe_at xs = cond (at_end xs) (Some (None, xs)) (and_then (number_at xs) (λ n. Some (Some n.0, n.1)))
+-- what one reader reads, or nothing at the line's end
+abbrev pub maybe : {A B : Type 0} → A × B → Option A × B
+maybe r = (Some r.0, r.1)
+
+abbrev pub maybe_at : {A : Type 0} → (List ℕ → Option (A × List ℕ)) → List ℕ → Option (Option A × List ℕ)
+maybe_at one xs = cond (at_end xs) (Some (None, xs)) (and_then (one xs) (λ r. Some (maybe r)))
 
 abbrev pub room_by : Option (List ℕ) → List ℕ → Option (Option ℕ × List ℕ)
 room_by None xs = Some (None, xs)
@@ -82,25 +80,30 @@ abbrev pub call_line_at : List ℕ → Option (Line × List ℕ)
 call_line_at xs = and_then (house_at xs) (λ i. and_then (call_at i.1) (λ c. Some (At i.0 c.0, c.1)))
 
 abbrev pub wake_at : List ℕ → Option (Line × List ℕ)
-wake_at xs = and_then (house_at xs) (λ i. and_then (maybe_at i.1) (λ n. Some (Wake i.0 n.0, n.1)))
+wake_at xs = and_then (house_at xs) (λ i. and_then (maybe_at number_at i.1) (λ n. Some (Wake i.0 n.0, n.1)))
 
 abbrev pub run_at : List ℕ → Option (Line × List ℕ)
 run_at xs = and_then (key_at (codes "seed") xs) (λ r. and_then (number_at r) (λ s. and_then (key_at (codes "steps") s.1) (λ q. and_then (number_at q) (λ n. Some (Run s.0 n.0, n.1)))))
 
+-- what happens to a house, or to all by a seed
+abbrev pub house_happening_by : (word rest : List ℕ) → Option (Line × List ℕ)
+house_happening_by w r =
+    cond (bytes_eq w (codes "fall")) (and_then (house_at r) (λ i. Some (Fall i.0, i.1)))
+    (cond (bytes_eq w (codes "wake")) (wake_at r)
+    (cond (bytes_eq w (codes "run")) (run_at r) None))
+
 -- what happens to letters and houses
 abbrev pub happening_by : (word rest : List ℕ) → Option (Line × List ℕ)
 happening_by w r =
-    cond (bytes_eq w (codes "pass")) (and_then (link_at r) (λ l. Some (Pass l.0, l.1)))
-    (cond (bytes_eq w (codes "lose")) (and_then (link_at r) (λ l. Some (Lose l.0, l.1)))
-    (cond (bytes_eq w (codes "twice")) (and_then (link_at r) (λ l. Some (Twice l.0, l.1)))
-    (cond (bytes_eq w (codes "fall")) (and_then (house_at r) (λ i. Some (Fall i.0, i.1)))
-    (cond (bytes_eq w (codes "wake")) (wake_at r)
-    (cond (bytes_eq w (codes "run")) (run_at r) None)))))
+    cond (bytes_eq w (codes "pass")) (and_then (maybe_at link_at r) (λ l. Some (Pass l.0, l.1)))
+    (cond (bytes_eq w (codes "lose")) (and_then (maybe_at link_at r) (λ l. Some (Lose l.0, l.1)))
+    (cond (bytes_eq w (codes "twice")) (and_then (maybe_at link_at r) (λ l. Some (Twice l.0, l.1)))
+    (house_happening_by w r)))
 
 abbrev pub command_by : (word rest : List ℕ) → Option (Line × List ℕ)
 command_by w r =
     cond (bytes_eq w (codes "at")) (call_line_at r)
-    (cond (bytes_eq w (codes "beat")) (and_then (which_at r) (λ l. Some (Beat l.0, l.1)))
+    (cond (bytes_eq w (codes "beat")) (and_then (maybe_at house_at r) (λ l. Some (Beat l.0, l.1)))
     (cond (bytes_eq w (codes "houses")) (houses_at r) (happening_by w r)))
 
 abbrev pub ended : Line × List ℕ → Option Line

@@ -1,14 +1,14 @@
 -- Letters under way: which are on a link.
-use Rattle.std.specs.Prelude.{◌≡◌, ℕ, Bool, true, not, ◌&&◌, List, map, vec_items, ◌==◌}
+use Rattle.std.specs.Prelude.{◌≡◌, ℕ, Bool, true, not, ◌&&◌, List, Some, None, map, vec_items, Option, ◌==◌}
 use Rattle.script.specs.declared.lines.Link.{Link}
-use Rattle.script.specs.declared.lines.Link.TheVariants.{All, One}
 use Rattle.script.specs.declared.network.Letter.{Letter}
 
-abbrev pub is_on : Link → Letter → Bool
-is_on All l = true
-is_on (One from to) l = l.from == from && l.to == to
+-- on this link, or on any
+abbrev pub is_on : Option Link → Letter → Bool
+is_on None l = true
+is_on (Some k) l = l.from == k.from && l.to == k.to
 
-abbrev pub is_off : Link → Letter → Bool
+abbrev pub is_off : Option Link → Letter → Bool
 is_off k l = not (is_on k l)
 
 -- a letter's sender, receiver and bytes

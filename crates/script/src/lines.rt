@@ -1,28 +1,21 @@
 // The lines of a script.
-ghost use Rattle.std.specs.Prelude.{◌≡◌};
+ghost use Rattle.std.specs.Prelude.{◌≡◌, false, true, Some, None};
 ghost use Rattle.std.specs.Option.{option_map};
+ghost use Rattle.std.specs.Fn.{FnOnceReturnsAt};
 ghost use Rattle.calls.specs.Reading.{behind};
 ghost use Rattle.words.specs.Values.{Reads};
-ghost use Rattle.script.specs.Lines.{line_of, at_end, is_out, house_at, which_at, link_at, maybe_at, room_at, count_at, houses_at, call_line_at, wake_at, run_at, happening_by, command_by, line_at, LineRead, lined};
+ghost use Rattle.script.specs.Lines.{line_of, at_end, is_out, house_at, link_at, maybe_at, maybe, room_at, count_at, houses_at, call_line_at, wake_at, run_at, house_happening_by, happening_by, command_by, line_at, LineRead, lined};
 
 use phrases::read_call;
 use std::alloc::Global;
-use text::words::is;
 use words::reading::{read_key, read_number, read_word, skip_spaces};
 use words::types::{Call, Fault, Wrong};
 
-// All houses, or one.
-#[derive(Clone, Copy)]
-pub enum Which {
-    All,
-    One(u8),
-}
-
-// All letters under way, or those from one house to another.
-#[derive(Clone, Copy)]
-pub enum Link {
-    All,
-    One(u8, u8),
+// Letters from one house to another.
+#[derive(Clone, Copy, Debug, PartialEq, Eq)]
+pub struct Link {
+    pub from: u8,
+    pub to: u8,
 }
 
 #[derive(Drop)]
@@ -30,10 +23,12 @@ pub enum Command {
     Nothing,
     Houses { count: u8, room: Option<u64> },
     At(u8, Call),
-    Beat(Which),
-    Pass(Link),
-    Lose(Link),
-    Twice(Link),
+    // one house, or all
+    Beat(Option<u8>),
+    // the letters of one link, or all that are under way
+    Pass(Option<Link>),
+    Lose(Option<Link>),
+    Twice(Option<Link>),
     Fall(u8),
     Wake(u8, Option<u64>),
     Run { seed: u64, steps: u64 },
@@ -42,9 +37,9 @@ pub enum Command {
 fn is_out(text: &[u8]) -> bool
     ensures { result ≡ is_out text.now }
 {
-    match text.split_first() {
-        Some((c, _)) => *c == b'#',
-        None => true,
+    match text {
+        [c, ..] => *c == b'#',
+        [] => true,
     }
 }
 
@@ -55,169 +50,121 @@ fn at_end(text: &[u8]) -> bool
     is_out(skip_spaces(text))
 }
 
+// What this reader reads, or nothing at the line's end.
+fn read_maybe<'a, T, F: FnOnce(&'a [u8]) -> Option<(T, &'a [u8])>>(
+    text: &'a [u8],
+    read_one: F,
+) -> Option<(Option<T>, &'a [u8])>
+    requires { F.IsAlwaysCallable read_one }
+    ensures end { at_end text.now ≡ true → option_map behind result ≡ Some (None, text.now) }
+    ensures more { at_end text.now ≡ false → (one : _) × FnOnceReturnsAt F.FnOnce read_one text.now one × option_map behind result ≡ option_map (λ x. maybe (behind x)) one }
+{
+    if at_end(text) {
+        return Some((None, text));
+    }
+    let (one, rest) = read_one(text)?;
+    Some((Some(one), rest))
+}
+
 fn read_house(text: &[u8]) -> Option<(u8, &[u8])>
     ensures { option_map behind result ≡ house_at text.now }
 {
-    let Some((house, rest)) = read_number(text) else {
-        return None;
-    };
-    if house < 7 {
-        Some((house as u8, rest))
-    } else {
-        None
+    match read_number(text)? {
+        (house, rest) if house < 7 => Some((house as u8, rest)),
+        _ => None,
     }
-}
-
-fn read_which(text: &[u8]) -> Option<(Which, &[u8])>
-    ensures { option_map behind result ≡ which_at text.now }
-{
-    if at_end(text) {
-        return Some((Which::All, text));
-    }
-    let Some((house, rest)) = read_house(text) else {
-        return None;
-    };
-    Some((Which::One(house), rest))
 }
 
 fn read_link(text: &[u8]) -> Option<(Link, &[u8])>
     ensures { option_map behind result ≡ link_at text.now }
 {
-    if at_end(text) {
-        return Some((Link::All, text));
-    }
-    let Some((from, rest)) = read_house(text) else {
-        return None;
-    };
-    let Some((to, rest)) = read_house(rest) else {
-        return None;
-    };
-    Some((Link::One(from, to), rest))
+    let (from, rest) = read_house(text)?;
+    let (to, rest) = read_house(rest)?;
+    Some((Link { from, to }, rest))
 }
 
-// A number, or the line's end.
-fn read_maybe(text: &[u8]) -> Option<(Option<u64>, &[u8])>
-    ensures { option_map behind result ≡ maybe_at text.now }
+fn read_links(text: &[u8]) -> Option<(Option<Link>, &[u8])>
+    ensures { option_map behind result ≡ maybe_at link_at text.now }
 {
-    if at_end(text) {
-        return Some((None, text));
-    }
-    let Some((number, rest)) = read_number(text) else {
-        return None;
-    };
-    Some((Some(number), rest))
+    read_maybe(text, read_link)
 }
 
 fn read_room(text: &[u8]) -> Option<(Option<u64>, &[u8])>
     ensures { option_map behind result ≡ room_at text.now }
 {
-    let Some(rest) = read_key(text, "room") else {
-        return Some((None, text));
-    };
-    let Some((number, rest)) = read_number(rest) else {
-        return None;
-    };
-    Some((Some(number), rest))
+    match read_key(text, "room") {
+        Some(rest) => {
+            let (room, rest) = read_number(rest)?;
+            Some((Some(room), rest))
+        }
+        None => Some((None, text)),
+    }
 }
 
 fn read_count(text: &[u8]) -> Option<(u8, &[u8])>
     ensures { option_map behind result ≡ count_at text.now }
 {
-    let Some((count, rest)) = read_number(text) else {
-        return None;
-    };
-    if 0 < count && count < 8 {
-        Some((count as u8, rest))
-    } else {
-        None
+    match read_number(text)? {
+        (count, rest) if 0 < count && count < 8 => Some((count as u8, rest)),
+        _ => None,
     }
 }
 
-fn read_houses(text: &[u8]) -> Option<(Command, &[u8])>
-    ensures { option_map lined result ≡ houses_at text.now }
+fn read_houses(text: &[u8]) -> Result<(Command, &[u8]), Fault>
+    ensures { Reads line_of result (houses_at text.now) }
 {
-    let Some((count, rest)) = read_count(text) else {
-        return None;
-    };
-    let Some((room, rest)) = read_room(rest) else {
-        return None;
-    };
-    Some((Command::Houses { count, room }, rest))
+    let (count, rest) = read_count(text).ok_or(Wrong::Houses)?;
+    let (room, rest) = read_room(rest).ok_or(Wrong::Houses)?;
+    Ok((Command::Houses { count, room }, rest))
 }
 
 fn read_wake(text: &[u8]) -> Option<(Command, &[u8])>
     ensures { option_map lined result ≡ wake_at text.now }
 {
-    let Some((house, rest)) = read_house(text) else {
-        return None;
-    };
-    let Some((incarnation, rest)) = read_maybe(rest) else {
-        return None;
-    };
+    let (house, rest) = read_house(text)?;
+    let (incarnation, rest) = read_maybe(rest, read_number)?;
     Some((Command::Wake(house, incarnation), rest))
 }
 
 fn read_run(text: &[u8]) -> Option<(Command, &[u8])>
     ensures { option_map lined result ≡ run_at text.now }
 {
-    let Some(rest) = read_key(text, "seed") else {
-        return None;
-    };
-    let Some((seed, rest)) = read_number(rest) else {
-        return None;
-    };
-    let Some(rest) = read_key(rest, "steps") else {
-        return None;
-    };
-    let Some((steps, rest)) = read_number(rest) else {
-        return None;
-    };
+    let (seed, rest) = read_number(read_key(text, "seed")?)?;
+    let (steps, rest) = read_number(read_key(rest, "steps")?)?;
     Some((Command::Run { seed, steps }, rest))
+}
+
+// What happens to a house, or to all by a seed.
+fn read_house_happening<'a>(word: &[u8], rest: &'a [u8]) -> Option<(Command, &'a [u8])>
+    ensures { option_map lined result ≡ house_happening_by word.now rest.now }
+{
+    match word {
+        b"fall" => {
+            let (house, rest) = read_house(rest)?;
+            Some((Command::Fall(house), rest))
+        }
+        b"wake" => read_wake(rest),
+        b"run" => read_run(rest),
+        _ => None,
+    }
 }
 
 // What happens to letters and houses.
 fn read_happening<'a>(word: &[u8], rest: &'a [u8]) -> Option<(Command, &'a [u8])>
     ensures { option_map lined result ≡ happening_by word.now rest.now }
 {
-    if is(word, "pass") {
-        let Some((link, rest)) = read_link(rest) else {
-            return None;
-        };
-        return Some((Command::Pass(link), rest));
+    match word {
+        b"pass" => read_links(rest).map(|(link, rest)| (Command::Pass(link), rest)),
+        b"lose" => read_links(rest).map(|(link, rest)| (Command::Lose(link), rest)),
+        b"twice" => read_links(rest).map(|(link, rest)| (Command::Twice(link), rest)),
+        _ => read_house_happening(word, rest),
     }
-    if is(word, "lose") {
-        let Some((link, rest)) = read_link(rest) else {
-            return None;
-        };
-        return Some((Command::Lose(link), rest));
-    }
-    if is(word, "twice") {
-        let Some((link, rest)) = read_link(rest) else {
-            return None;
-        };
-        return Some((Command::Twice(link), rest));
-    }
-    if is(word, "fall") {
-        let Some((house, rest)) = read_house(rest) else {
-            return None;
-        };
-        return Some((Command::Fall(house), rest));
-    }
-    if is(word, "wake") {
-        return read_wake(rest);
-    }
-    if is(word, "run") {
-        return read_run(rest);
-    }
-    None
 }
 
 fn read_call_line(heap: Global, text: &[u8]) -> Result<(Command, &[u8]), Fault>
     ensures { Reads line_of result (call_line_at text.now) }
 {
-    let Some((house, rest)) = read_house(text) else {
-        return Err(Fault::Wrong(Wrong::House));
-    };
+    let (house, rest) = read_house(text).ok_or(Wrong::House)?;
     let (call, rest) = read_call(heap, rest)?;
     Ok((Command::At(house, call), rest))
 }
@@ -225,25 +172,15 @@ fn read_call_line(heap: Global, text: &[u8]) -> Result<(Command, &[u8]), Fault>
 fn read_command<'a>(heap: Global, word: &[u8], rest: &'a [u8]) -> Result<(Command, &'a [u8]), Fault>
     ensures { Reads line_of result (command_by word.now rest.now) }
 {
-    if is(word, "at") {
-        return read_call_line(heap, rest);
+    match word {
+        b"at" => read_call_line(heap, rest),
+        b"beat" => {
+            let (house, rest) = read_maybe(rest, read_house).ok_or(Wrong::House)?;
+            Ok((Command::Beat(house), rest))
+        }
+        b"houses" => read_houses(rest),
+        _ => read_happening(word, rest).ok_or(Fault::Wrong(Wrong::Command)),
     }
-    if is(word, "beat") {
-        let Some((which, rest)) = read_which(rest) else {
-            return Err(Fault::Wrong(Wrong::House));
-        };
-        return Ok((Command::Beat(which), rest));
-    }
-    if is(word, "houses") {
-        let Some((command, rest)) = read_houses(rest) else {
-            return Err(Fault::Wrong(Wrong::Houses));
-        };
-        return Ok((command, rest));
-    }
-    let Some((command, rest)) = read_happening(word, rest) else {
-        return Err(Fault::Wrong(Wrong::Command));
-    };
-    Ok((command, rest))
 }
 
 // What a line says.
@@ -253,8 +190,8 @@ pub fn read_line(heap: Global, line: &[u8]) -> Result<Command, Fault>
     if at_end(line) {
         return Ok(Command::Nothing);
     }
-    let read = read_word(line);
-    let (command, rest) = read_command(heap, read.word, read.rest)?;
+    let (word, rest) = read_word(line);
+    let (command, rest) = read_command(heap, word, rest)?;
     if at_end(rest) {
         Ok(command)
     } else {

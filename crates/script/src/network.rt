@@ -13,12 +13,13 @@ pub struct Letter {
     pub bytes: Vec<u8>,
 }
 
-fn is_on(link: Link, letter: &Letter) -> bool
+// Is the letter on this link, or on any.
+fn is_on(link: Option<Link>, letter: &Letter) -> bool
     ensures { result ≡ is_on link letter.now }
 {
     match link {
-        Link::All => true,
-        Link::One(from, to) => letter.from == from && letter.to == to,
+        Some(Link { from, to }) => letter.from == from && letter.to == to,
+        None => true,
     }
 }
 
@@ -29,7 +30,7 @@ pub struct Parted {
     pub left: Vec<Letter>,
 }
 
-pub fn part(heap: Global, letters: Vec<Letter>, link: Link) -> Result<Parted, AllocError>
+pub fn part(heap: Global, letters: Vec<Letter>, link: Option<Link>) -> Result<Parted, AllocError>
     ensures { IfOk result (λ p. (p.taken.items ≡ keep (is_on link) letters.items) × (p.left.items ≡ keep (is_off link) letters.items)) }
 {
     let mut taken = Vec::new(heap);
@@ -56,7 +57,11 @@ fn copy(heap: Global, letter: &Letter) -> Result<Letter, AllocError>
 }
 
 // The letters of a link once more, in their order, for those that come twice.
-pub fn copies(heap: Global, letters: &[Letter], link: Link) -> Result<Vec<Letter>, AllocError>
+pub fn copies(
+    heap: Global,
+    letters: &[Letter],
+    link: Option<Link>,
+) -> Result<Vec<Letter>, AllocError>
     ensures { IfOk result (λ v. Same v.items (keep (is_on link) letters.now)) }
 {
     let mut taken = Vec::new(heap);
