@@ -20,7 +20,7 @@ enum Reader {
 }
 
 // What is said of what was read: that it was, or what is wrong with it.
-fn said_of<T: Drop, E: Display>(heap: Global, read: Result<T, E>) -> Result<String, Fail> {
+fn said_of<T: Drop, E: Display + Drop>(heap: Global, read: Result<T, E>) -> Result<String, Fail> {
     match read {
         Ok(_) => Ok(String::from_str(heap, "read")?),
         Err(fault) => Ok(format!(in heap; "{fault}")?),

@@ -31,7 +31,7 @@ impl Scene {
     }
 
     // Says why the line is not played; nothing is done of it.
-    pub fn refuse<E: Display>(&self, rt: &HostRuntime, why: E) -> io::Result<()> {
+    pub fn refuse<E: Display + Drop>(&self, rt: &HostRuntime, why: E) -> io::Result<()> {
         let line = self.line;
         println!(rt; "line {line}: {why}")
     }

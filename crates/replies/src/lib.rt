@@ -41,6 +41,7 @@ fn reason(number: u8) -> &'static str
 }
 
 // A text and a number behind it.
+// kept: these words go behind others in one Vec; Display would make a String of them first, to be copied
 fn push_count(heap: Global, out: &mut Vec<u8>, text: &str, number: u64) -> Result<(), AllocError>
     ensures { OnOk result (out.new.items ≡ out.old.items ++ count_spelled text.now number) }
 {
@@ -48,6 +49,7 @@ fn push_count(heap: Global, out: &mut Vec<u8>, text: &str, number: u64) -> Resul
     push_decimal(heap, out, number)
 }
 
+// kept: these words go behind others in one Vec; Display would make a String of them first, to be copied
 fn push_refusal(heap: Global, out: &mut Vec<u8>, refusal: Refusal) -> Result<(), AllocError>
     ensures { OnOk result (out.new.items ≡ out.old.items ++ refused_spelled refusal.act refusal.reason) }
 {
@@ -57,6 +59,7 @@ fn push_refusal(heap: Global, out: &mut Vec<u8>, refusal: Refusal) -> Result<(),
     push_text(out, reason(refusal.reason))
 }
 
+// kept: these words go behind others in one Vec; Display would make a String of them first, to be copied
 fn push_counts(heap: Global, out: &mut Vec<u8>, entry: Entry<'_>) -> Result<(), AllocError>
     ensures { OnOk result (out.new.items ≡ out.old.items ++ counts_spelled entry.entry.version entry.entry.made entry.entry.changed entry.entry.kids entry.entry.session) }
 {
@@ -67,6 +70,7 @@ fn push_counts(heap: Global, out: &mut Vec<u8>, entry: Entry<'_>) -> Result<(), 
     push_count(heap, out, " session ", entry.session)
 }
 
+// kept: these words go behind others in one Vec; Display would make a String of them first, to be copied
 fn push_entry(heap: Global, out: &mut Vec<u8>, entry: Entry<'_>) -> Result<(), AllocError>
     ensures { OnOk result (out.new.items ≡ out.old.items ++ entry_spelled entry.entry.value.now entry.entry.version entry.entry.made entry.entry.changed entry.entry.kids entry.entry.session) }
 {
@@ -75,6 +79,7 @@ fn push_entry(heap: Global, out: &mut Vec<u8>, entry: Entry<'_>) -> Result<(), A
     push_counts(heap, out, entry)
 }
 
+// kept: these words go behind others in one Vec; Display would make a String of them first, to be copied
 fn tell_done(out: &mut Vec<u8>, bytes: &[u8]) -> Result<(), Untold>
     ensures { Telling (done_at bytes.now) result out.old.items out.new.items }
 {
@@ -84,6 +89,7 @@ fn tell_done(out: &mut Vec<u8>, bytes: &[u8]) -> Result<(), Untold>
     wholly((), rest).ok_or(Untold::NoAnswer)
 }
 
+// kept: these words go behind others in one Vec; Display would make a String of them first, to be copied
 fn tell_kids(out: &mut Vec<u8>, bytes: &[u8]) -> Result<(), Untold>
     ensures { Telling (names_in bytes.now) result out.old.items out.new.items }
 {
@@ -93,6 +99,7 @@ fn tell_kids(out: &mut Vec<u8>, bytes: &[u8]) -> Result<(), Untold>
     wholly((), rest).ok_or(Untold::NoAnswer)
 }
 
+// kept: these words go behind others in one Vec; Display would make a String of them first, to be copied
 fn tell(heap: Global, out: &mut Vec<u8>, bytes: &[u8]) -> Result<(), Untold>
     ensures { Telling (decode_reply bytes.now) result out.old.items out.new.items }
 {

@@ -20,6 +20,7 @@ fn read_name(bytes: &[u8]) -> Option<(&[u8], &[u8])>
 }
 
 // A name behind this text; what is left behind it.
+// kept: these words go behind others in one Vec; Display would make a String of them first, to be copied
 fn tell_name<'a>(out: &mut Vec<u8>, before: &str, bytes: &'a [u8]) -> Result<&'a [u8], Untold>
     ensures { Left result out.new.items (told (name_behind before.now) out.old.items (name_at bytes.now)) }
 {
@@ -30,6 +31,7 @@ fn tell_name<'a>(out: &mut Vec<u8>, before: &str, bytes: &'a [u8]) -> Result<&'a
 }
 
 // So many names, each behind this text.
+// kept: these words go behind others in one Vec; Display would make a String of them first, to be copied
 pub(crate) fn tell_names<'a>(
     out: &mut Vec<u8>,
     before: &str,
@@ -47,6 +49,7 @@ pub(crate) fn tell_names<'a>(
 }
 
 // A path behind a space.
+// kept: these words go behind others in one Vec; Display would make a String of them first, to be copied
 fn tell_path<'a>(out: &mut Vec<u8>, bytes: &'a [u8]) -> Result<&'a [u8], Untold>
     ensures { Left result out.new.items (told path_behind out.old.items (path_at bytes.now)) }
 {
@@ -56,6 +59,7 @@ fn tell_path<'a>(out: &mut Vec<u8>, bytes: &'a [u8]) -> Result<&'a [u8], Untold>
 }
 
 // So many paths.
+// kept: these words go behind others in one Vec; Display would make a String of them first, to be copied
 pub(crate) fn tell_paths<'a>(
     out: &mut Vec<u8>,
     bytes: &'a [u8],

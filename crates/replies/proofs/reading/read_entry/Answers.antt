@@ -22,4 +22,4 @@ returns c =
     (next (number_at c.in_ok-version.rest.now) (λ r. changed_at v n r.0 r.1) m c.in_ok-made.rest.now _ (sym c.in_ok-made.ensures)
     (next (number_at c.in_ok-made.rest.now) (λ r. kids_at v n m r.0 r.1) g c.in_ok-changed.rest.now _ (sym c.in_ok-changed.ensures)
     (next (number_at c.in_ok-changed.rest.now) (λ r. owner_at v n m g r.0 r.1) k c.in_ok-kids.rest.now _ (sym c.in_ok-kids.ensures)
-    (next (number_at c.in_ok-kids.rest.now) (λ r. wholly (Entry' v n m g k r.0, r.1)) c.in_ok-session.session c.in_ok-session.rest.now _ (sym c.in_ok-session.ensures) refl))))))) 
+    (next (number_at c.in_ok-kids.rest.now) (λ r. wholly (Entry' v n m g k r.0, r.1)) c.in_ok-session.session c.in_ok-session.rest.now _ (sym c.in_ok-session.ensures) refl)))))))
