@@ -186,14 +186,8 @@ fn read_looking<'a>(
     ensures { Reads call_of result (looking_by word.now rest.now text.now) }
 {
     match word {
-        b"look" => {
-            let (path, rest) = read_path(heap, rest)?;
-            Ok((Call::Look(path), rest))
-        }
-        b"kids" => {
-            let (path, rest) = read_path(heap, rest)?;
-            Ok((Call::Kids(path), rest))
-        }
+        b"look" => read_path(heap, rest).map(|(path, rest)| (Call::Look(path), rest)),
+        b"kids" => read_path(heap, rest).map(|(path, rest)| (Call::Kids(path), rest)),
         _ => read_lone(heap, text),
     }
 }
@@ -208,10 +202,7 @@ fn read_begun<'a>(
     ensures { Reads call_of result (call_by word.now rest.now text.now) }
 {
     match word {
-        b"do" => {
-            let (acts, rest) = read_braced(heap, rest)?;
-            Ok((Call::Do(acts), rest))
-        }
+        b"do" => read_braced(heap, rest).map(|(acts, rest)| (Call::Do(acts), rest)),
         b"open" => Ok((Call::Open, rest)),
         b"end" => {
             let (session, rest) = read_number(rest).ok_or(Wrong::Number)?;

@@ -70,7 +70,7 @@ fn read_house(text: &[u8]) -> Option<(u8, &[u8])>
     ensures { option_map behind result ≡ house_at text.now }
 {
     match read_number(text)? {
-        (house, rest) if house < 7 => Some((house as u8, rest)),
+        (house @ 0..=6, rest) => Some((house as u8, rest)),
         _ => None,
     }
 }
@@ -105,7 +105,7 @@ fn read_count(text: &[u8]) -> Option<(u8, &[u8])>
     ensures { option_map behind result ≡ count_at text.now }
 {
     match read_number(text)? {
-        (count, rest) if 0 < count && count < 8 => Some((count as u8, rest)),
+        (count @ 1..=7, rest) => Some((count as u8, rest)),
         _ => None,
     }
 }

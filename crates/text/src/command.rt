@@ -33,6 +33,7 @@ pub enum CommandFault {
     Own,
 }
 
+// kept: clauses name the fault that ? makes, and only a From by hand says it
 impl From<DecimalFault> for CommandFault {
     ghost from_gives = { λ e r. r ≡ Number e };
 

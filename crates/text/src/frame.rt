@@ -29,6 +29,7 @@ pub enum FrameFault {
     Memory,
 }
 
+// kept: clauses name the fault that ? makes, and only a From by hand says it
 impl From<AllocError> for FrameFault {
     ghost from_gives = { λ _ r. r ≡ Memory };
 
@@ -52,6 +53,7 @@ pub fn read_frame(bytes: &[u8]) -> Result<Frame<'_>, FrameFault>
 }
 
 // Writes the call's frame behind what is there.
+// kept: a frame is bytes, not text
 pub fn push_frame(out: &mut Vec<u8>, number: u64, call: &[u8]) -> Result<(), FrameFault>
     ensures { FramePushed result number call.now out.old.items out.new.items }
 {

@@ -20,6 +20,7 @@ pub enum HexFault {
     Memory,
 }
 
+// kept: clauses name the fault that ? makes, and only a From by hand says it
 impl<T: Drop> From<AllocFailed<T>> for HexFault {
     ghost from_gives = { λ _ r. r ≡ Memory };
 
@@ -48,6 +49,7 @@ pub fn hex_value(c: u8) -> Option<u8>
 }
 
 // Writes two digits for each byte behind what is there.
+// kept: by a Display, a text of all digits would be made first, and copied
 pub fn push_hex(out: &mut Vec<u8>, bytes: &[u8]) -> Result<(), AllocError>
     ensures { Pushed result out.old.items out.new.items (hex_of bytes.now) }
 {

@@ -7,6 +7,7 @@ use crate::frame::{FrameFault, push_frame};
 use crate::hex::push_hex;
 use std::alloc::{AllocError, Global};
 
+// kept: by a Display, a text of the whole line would be made first, and copied
 fn push_line(
     heap: Global,
     out: &mut Vec<u8>,
@@ -25,6 +26,7 @@ fn push_line(
 }
 
 // An answer to the client with this number.
+// kept: it is push_line, of a frame
 pub fn push_answer(
     heap: Global,
     out: &mut Vec<u8>,
@@ -40,6 +42,7 @@ pub fn push_answer(
 }
 
 // A letter to another replica.
+// kept: it is push_line, by another word
 pub fn push_letter(heap: Global, out: &mut Vec<u8>, to: u8, letter: &[u8]) -> Result<(), AllocError>
     ensures { OnOk result (out.new.items ≡ out.old.items ++ letter_line to letter.now) }
 {

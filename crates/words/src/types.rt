@@ -63,6 +63,7 @@ pub enum Wrong {
     Long,
 }
 
+// kept: the derive of thiserror would be a dependency more, for this one table
 impl fmt::Display for Wrong {
     fn fmt<W: fmt::Write>(&self, f: &mut fmt::Formatter<W>) -> fmt::Result {
         f.write_str(match self {
@@ -85,12 +86,14 @@ impl fmt::Display for Wrong {
 }
 
 // Why a line is not read.
+// kept: both cases are errors, and no memory is no absence of one
 #[derive(Clone, Copy, Debug, PartialEq, Eq)]
 pub enum Fault {
     Memory,
     Wrong(Wrong),
 }
 
+// kept: as for Wrong
 impl fmt::Display for Fault {
     fn fmt<W: fmt::Write>(&self, f: &mut fmt::Formatter<W>) -> fmt::Result {
         match self {
@@ -100,6 +103,7 @@ impl fmt::Display for Fault {
     }
 }
 
+// kept: clauses name the fault that ? makes, and only a From by hand says it
 impl From<Wrong> for Fault {
     ghost from_gives = { λ w r. r ≡ fault.Wrong w };
 
@@ -108,6 +112,7 @@ impl From<Wrong> for Fault {
     }
 }
 
+// kept: clauses name the fault that ? makes, and only a From by hand says it
 impl From<AllocError> for Fault {
     ghost from_gives = { λ _ r. r ≡ fault.Memory };
 
@@ -116,6 +121,7 @@ impl From<AllocError> for Fault {
     }
 }
 
+// kept: clauses name the fault that ? makes, and only a From by hand says it
 impl<T: Drop> From<AllocFailed<T>> for Fault {
     ghost from_gives = { λ _ r. r ≡ fault.Memory };
 
