@@ -1,5 +1,5 @@
 -- What a call's answer says of the memory: how long the answer is, and which of two buffers is the tree. Assumes nothing.
-use Rattle.std.specs.Prelude.{ℕ, Some, None, Option}
+use Rattle.std.specs.Prelude.{ℕ, Ok, Err, Some, None, Option, Result}
 use Rattle.cells.specs.declared.draft.Size.{Size}
 use Rattle.service.specs.declared.clerk.Answered.{Answered}
 
@@ -20,3 +20,8 @@ used_by used (Some z) = z.used
 abbrev pub pick : {A : Type 0} → A → A → Option Size → A
 pick x y None = x
 pick x y (Some z) = y
+
+-- what there is either way
+abbrev pub either : {A : Type 0} → Result A A → A
+either (Ok x) = x
+either (Err x) = x

@@ -1,12 +1,12 @@
 // One replica alone: its tree lies in one buffer, and the next is written into another, which then is the tree.
 #![tactic(auto)]
 
-ghost use Rattle.std.specs.Prelude.{◌≡◌, ◌≤◌, min, true, length, take, IfOk};
+ghost use Rattle.std.specs.Prelude.{◌≡◌, ◌≤◌, min, true, length, take, is_ok, IfOk};
 ghost use Rattle.model.specs.Tree.{blank};
 ghost use Rattle.content.specs.Content.{is_tree};
 ghost use Rattle.service.specs.Answering.{AnsweredBy};
 ghost use Rattle.alone.specs.Standing.{stands_for, Roomy, Speaks, Told};
-ghost use Rattle.alone.specs.Turning.{said_by, size_by, used_by, pick};
+ghost use Rattle.alone.specs.Turning.{said_by, size_by, used_by, pick, either};
 
 use cells::draft::Size;
 use drafts::writing::start_blank;
@@ -24,6 +24,7 @@ struct Desk {
 #[derive(Drop)]
 pub struct Alone {
     room: u64,
+    // kept: the memory is lent once, as long as the room wants it, and no call takes more; a length says how much of it is in use
     // how much of the first buffer is the tree
     used: usize,
     // how long the last answer is
@@ -96,6 +97,13 @@ fn turned(
     }
 }
 
+// The replica afterwards, where it answered, and where it didn't.
+fn told(alone: Alone, answered: bool) -> Result<Alone, Alone>
+    ensures { (either result ≡ alone) × (is_ok result ≡ answered) }
+{
+    if answered { Ok(alone) } else { Err(alone) }
+}
+
 impl Alone {
     // Memory for a tree of this room, of 64 MiB at most, with the first tree in it.
     pub fn new(heap: Global, room: u64) -> Result<Alone, AllocError>
@@ -124,10 +132,10 @@ impl Alone {
         })
     }
 
-    // Answers a call: the replica afterwards, and whether there is an answer; none where no more changes can be counted.
-    pub fn ask(self, call: &[u8]) -> (Alone, bool)
-        ensures room { result.0.room ≡ self.room }
-        ensures told { Told self.room call.now (stands_for self.tree.items self.used) result.1 (stands_for result.0.tree.items result.0.used) (take result.0.said result.0.desk.reply.items) }
+    // Answers a call, and is the replica afterwards; or, where no more changes can be counted, there is no answer, and the replica is what it was.
+    pub fn ask(self, call: &[u8]) -> Result<Alone, Alone>
+        ensures room { (either result).room ≡ self.room }
+        ensures told { Told self.room call.now (stands_for self.tree.items self.used) (is_ok result) (stands_for (either result).tree.items (either result).used) (take (either result).said (either result).desk.reply.items) }
     {
         let Alone {
             room,
@@ -149,7 +157,7 @@ impl Alone {
             next,
             desk,
         };
-        (alone, done.is_some())
+        told(alone, done.is_some())
     }
 
     // The last answer.

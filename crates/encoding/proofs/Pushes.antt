@@ -1,16 +1,28 @@
--- Names, and what is written one behind the other, end with the last of them.
-use Rattle.std.proofs.Common.{◌≡◌, ℕ, List, [], ◌∷◌, ◌++◌, sym, ap, ◌∙◌, append_assoc}
-use Rattle.std.proofs.lemmas.List.{append-nil}
-use Rattle.model.specs.Tree.{Name, Path}
+-- Names, and what is written one behind the other, as the code writes them.
+use Rattle.std.proofs.Common.{◌≡◌, ℕ, Bool, true, false, List, [], ◌∷◌, ◌++◌, map, Ok, Err, Result, refl, ap}
+use Rattle.std.specs.Bool.{if◌then◌else◌}
+use Rattle.std.specs.Int.{from_bool}
+use Rattle.std.specs.List.{flat_map}
+use Rattle.std.specs.Result.{OnOk, is_ok}
+use Rattle.model.specs.Tree.{Name}
 use Rattle.lent_bytes.specs.Paths.{name_bytes, path_bytes}
-use Rattle.lent_bytes.proofs.PathBytes.{bytes_append}
-use Rattle.calls.specs.Format.{many_written}
+use Rattle.calls.specs.Format.{flag_written, many_written}
 
-pub names_push : (ns : Path) (n : Name) → path_bytes (ns ++ (n ∷ [])) ≡ path_bytes ns ++ name_bytes n
+pub names_written : {A : Type 0} (of : A → Name) (xs : List A) → flat_map (λ x. name_bytes (of x)) xs ≡ path_bytes (map of xs)
 unfolding path_bytes
-names_push ns n = bytes_append ns (n ∷ []) ∙ ap (λ (ys : List ℕ). path_bytes ns ++ ys) (append-nil (name_bytes n))
+names_written of [] = refl
+names_written of (x ∷ xs) = ap (λ (bs : List ℕ). name_bytes (of x) ++ bs) (names_written of xs)
 
-pub written_push : {A : Type 0} (f : A → List ℕ) (ys : List A) (y : A) → many_written f (ys ++ (y ∷ [])) ≡ many_written f ys ++ f y
+pub all_written : {A B : Type 0} (of : A → B) (f : B → List ℕ) (xs : List A) → flat_map (λ x. f (of x)) xs ≡ many_written f (map of xs)
 unfolding many_written
-written_push f [] y = append-nil (f y)
-written_push f (x ∷ xs) y = ap (λ (zs : List ℕ). f x ++ zs) (written_push f xs y) ∙ sym (append_assoc (f x) (many_written f xs) (f y))
+all_written of f [] = refl
+all_written of f (x ∷ xs) = ap (λ (bs : List ℕ). f (of x) ++ bs) (all_written of f xs)
+
+-- what `extend_from_slice` says, where its answer is handed on
+pub on_ok_if : {T E : Type 0} (r : Result T E) (x a b : List ℕ) → x ≡ (if is_ok r then a else b) → OnOk r (x ≡ a)
+on_ok_if (Ok t) x a b e = e
+on_ok_if (Err t) x a b e = tt
+
+pub flag_is : (b : Bool) → from_bool b ≡ flag_written b
+flag_is true = refl
+flag_is false = refl

@@ -5,32 +5,25 @@ use alone::Alone;
 use calls::answers::refused;
 use calls::screening::{NotLetIn, screen};
 use std::alloc::{AllocError, Global};
-use std::fmt::Display;
 use std::io::{BufRead, BufReader, Write};
 use std::process::ExitCode;
-use std::{env, fmt, io};
+use std::{env, io};
 use text::command::{Command, CommandFault, Place, read_command, read_place};
 use text::decimal::read_decimal;
 use text::frame::{FrameFault, read_frame};
 use text::hex::{HexFault, read_hex};
 use text::line::push_answer;
+use thiserror::Error;
 
 // Why a line was not taken; nothing is changed by it.
-#[derive(Clone, Copy)]
+#[derive(Clone, Copy, Debug, Error)]
 enum Refusal {
-    Line(CommandFault),
-    Hex(HexFault),
-    Frame(FrameFault),
-}
-
-impl fmt::Display for Refusal {
-    fn fmt<W: fmt::Write>(&self, f: &mut fmt::Formatter<W>) -> fmt::Result {
-        match self {
-            Refusal::Line(fault) => fault.fmt(f),
-            Refusal::Hex(fault) => fault.fmt(f),
-            Refusal::Frame(fault) => fault.fmt(f),
-        }
-    }
+    #[error(transparent)]
+    Line(#[from] CommandFault),
+    #[error(transparent)]
+    Hex(#[from] HexFault),
+    #[error(transparent)]
+    Frame(#[from] FrameFault),
 }
 
 // Who this replica is, and the room of its tree in bytes.
@@ -43,157 +36,100 @@ struct Arguments {
 // 64 MiB
 const FULL_ROOM: u64 = 67108864;
 
-// What the arguments say; none where they are not understood.
-fn read_arguments(rt: &HostRuntime) -> io::Result<Option<Arguments>> {
-    let mut words = env::args(rt)?;
-    let _program = words.next();
-    let Some(me) = words.next() else {
-        return Ok(None);
-    };
-    let Some(all) = words.next() else {
-        return Ok(None);
-    };
-    let Some(chance) = words.next() else {
-        return Ok(None);
-    };
-    let mut room = FULL_ROOM;
-    if let Some(word) = words.next() {
-        match read_decimal(word.as_bytes()) {
-            Ok(bytes) => room = bytes,
-            Err(_) => return Ok(None),
+impl Arguments {
+    // What the words say; none where they are not understood.
+    fn read(mut words: env::Args) -> Option<Arguments> {
+        let _program = words.next();
+        let (me, all, chance) = (words.next()?, words.next()?, words.next()?);
+        let room = match words.next() {
+            Some(word) => read_decimal(word.as_bytes()).ok()?,
+            None => FULL_ROOM,
+        };
+        if room > FULL_ROOM || words.next().is_some() {
+            return None;
         }
-    }
-    if room > FULL_ROOM || words.next().is_some() {
-        return Ok(None);
-    }
-    match read_place(me.as_bytes(), all.as_bytes(), chance.as_bytes()) {
-        Some(place) => Ok(Some(Arguments { place, room })),
-        None => Ok(None),
+        let place = read_place(me.as_bytes(), all.as_bytes(), chance.as_bytes())?;
+        Some(Arguments { place, room })
     }
 }
 
 // What a call is answered where there are others, while no replica is built in: a refusal, by 1 where the bytes are no call, else by 12.
 fn refuse(heap: Global, number: u64, call: &[u8], out: &mut Vec<u8>) -> Result<(), Refusal> {
-    let why = match screen(call) {
-        Ok(_) => NotLetIn::NotBuilt,
-        Err(why) => why,
-    };
-    let refused = refused(0, why.number());
-    match push_answer(heap, out, number, &refused) {
-        Ok(()) => Ok(()),
-        Err(fault) => Err(Refusal::Frame(fault)),
-    }
+    let why = screen(call).err().unwrap_or(NotLetIn::NotBuilt);
+    push_answer(heap, out, number, &refused(0, why.number()))?;
+    Ok(())
 }
 
-// A call: answered from the tree where this replica is the only one.
-fn ask(
-    heap: Global,
-    house: House,
-    bytes: &[u8],
-    out: &mut Vec<u8>,
-) -> (House, Result<(), Refusal>) {
-    let frame = match read_frame(bytes) {
-        Ok(frame) => frame,
-        Err(fault) => return (house, Err(Refusal::Frame(fault))),
-    };
-    match house {
-        House::Other => (House::Other, refuse(heap, frame.number, frame.call, out)),
-        House::Only(alone) => {
-            let (alone, answered) = alone.ask(frame.call);
-            if !answered {
-                return (House::Only(alone), Ok(()));
+// What stands behind the lines: who this replica is, and the tree where it is the only one; as one of several it can't do calls yet.
+#[derive(Drop)]
+struct House {
+    place: Place,
+    only: Option<Alone>,
+}
+
+impl House {
+    fn start(heap: Global, arguments: Arguments) -> Result<House, AllocError> {
+        let place = arguments.place;
+        let only = if place.all == 1 {
+            Some(Alone::new(heap, arguments.room)?)
+        } else {
+            None
+        };
+        Ok(House { place, only })
+    }
+
+    // A call: answered from the tree where this replica is the only one.
+    fn ask(&mut self, heap: Global, bytes: &[u8], out: &mut Vec<u8>) -> Result<(), Refusal> {
+        let frame = read_frame(bytes)?;
+        let Some(alone) = self.only.take() else {
+            return refuse(heap, frame.number, frame.call, out);
+        };
+        match alone.ask(frame.call) {
+            Ok(alone) => {
+                let told = push_answer(heap, out, frame.number, alone.reply());
+                self.only = Some(alone);
+                told?;
             }
-            let told = match push_answer(heap, out, frame.number, alone.reply()) {
-                Ok(()) => Ok(()),
-                Err(fault) => Err(Refusal::Frame(fault)),
-            };
-            (House::Only(alone), told)
+            Err(alone) => self.only = Some(alone),
+        }
+        Ok(())
+    }
+
+    // Writes to out what one line brings about.
+    fn take_line(&mut self, heap: Global, line: &[u8], out: &mut Vec<u8>) -> Result<(), Refusal> {
+        match read_command(line, self.place.me, self.place.all)? {
+            Command::Ask(hex) => self.ask(heap, &read_hex(heap, hex)?, out),
+            Command::From(_, hex) => {
+                read_hex(heap, hex)?;
+                Ok(())
+            }
+            Command::Beat => Ok(()),
         }
     }
 }
 
-// Writes to out what one line brings about.
-fn take_line(
-    heap: Global,
-    place: Place,
-    house: House,
-    line: &[u8],
-    out: &mut Vec<u8>,
-) -> (House, Result<(), Refusal>) {
-    match read_command(line, place.me, place.all) {
-        Ok(Command::Ask(hex)) => match read_hex(heap, hex) {
-            Ok(bytes) => ask(heap, house, &bytes, out),
-            Err(fault) => (house, Err(Refusal::Hex(fault))),
-        },
-        Ok(Command::From(_, hex)) => match read_hex(heap, hex) {
-            Ok(_) => (house, Ok(())),
-            Err(fault) => (house, Err(Refusal::Hex(fault))),
-        },
-        Ok(Command::Beat) => (house, Ok(())),
-        Err(fault) => (house, Err(Refusal::Line(fault))),
-    }
-}
-
-// The line without its end.
-fn without_end(line: &[u8]) -> &[u8] {
-    match line.split_last() {
-        Some((b'\n', front)) => front,
-        _ => line,
-    }
-}
-
-// Reads one line and writes what it brings about; none is left at the end of the input.
-fn serve(
-    rt: &HostRuntime,
-    place: Place,
-    house: House,
-    input: &mut BufReader<io::Stdin>,
-    line: &mut Vec<u8>,
-) -> anyhow::Result<Option<House>> {
-    line.clear();
-    if input.read_until(b'\n', line)? == 0 {
-        return Ok(None);
-    }
+// Writes what one line brings about.
+fn serve(rt: &HostRuntime, house: &mut House, line: &[u8]) -> io::Result<()> {
     let mut out = Vec::new(rt.alloc());
-    let (house, told) = take_line(rt.alloc(), place, house, without_end(line), &mut out);
-    match told {
+    match house.take_line(rt.alloc(), line, &mut out) {
         Ok(()) => {
             let mut stdout = rt.stdout();
             stdout.write_all(&out)?;
-            stdout.flush()?;
+            stdout.flush()
         }
-        Err(refusal) => eprintln!(rt; "{refusal}")?,
+        Err(refusal) => eprintln!(rt; "{refusal}"),
     }
-    Ok(Some(house))
-}
-
-// What stands behind the lines: the only replica, with the tree; or one of several, which can't do calls yet.
-#[derive(Drop)]
-enum House {
-    Only(Alone),
-    Other,
-}
-
-fn start(heap: Global, arguments: Arguments) -> Result<House, AllocError> {
-    if arguments.place.all == 1 {
-        return Ok(House::Only(Alone::new(heap, arguments.room)?));
-    }
-    Ok(House::Other)
 }
 
 fn main(rt: HostRuntime) -> anyhow::Result<ExitCode> {
-    let Some(arguments) = read_arguments(&rt)? else {
+    let Some(arguments) = Arguments::read(env::args(&rt)?) else {
         eprintln!(rt; "usage: house I N CHANCE [ROOM], with I below N and N from 1 to 7")?;
         return Ok(ExitCode::FAILURE);
     };
-    let mut house = start(rt.alloc(), arguments)?;
-    let mut input = BufReader::new(rt.alloc(), rt.stdin())?;
-    let mut line = Vec::new(rt.alloc());
-    for _ in 0..u64::MAX {
-        match serve(&rt, arguments.place, house, &mut input, &mut line)? {
-            Some(next) => house = next,
-            None => return Ok(ExitCode::SUCCESS),
-        }
+    let mut house = House::start(rt.alloc(), arguments)?;
+    let input = BufReader::new(rt.alloc(), rt.stdin())?;
+    for line in input.split(rt.alloc(), b'\n') {
+        serve(&rt, &mut house, &line?)?;
     }
     Ok(ExitCode::SUCCESS)
 }

@@ -1,12 +1,13 @@
 // Texts and what is said of each, for every reader of the programs.
 use phrases::read_call;
 use std::alloc::Global;
+use std::fmt::Display;
 use std::test::Fail;
 use text::command::read_command;
 use text::decimal::read_decimal;
 use text::frame::read_frame;
 use text::hex::read_hex;
-use words::types::{Fault, Wrong};
+use words::types::Fault;
 
 #[derive(Clone, Copy)]
 enum Reader {
@@ -18,63 +19,29 @@ enum Reader {
     Call,
 }
 
-fn of_hex(heap: Global, text: &[u8]) -> Result<String, Fail> {
-    match read_hex(heap, text) {
+// What is said of what was read: that it was, or what is wrong with it.
+fn said_of<T: Drop, E: Display + Drop>(heap: Global, read: Result<T, E>) -> Result<String, Fail> {
+    match read {
         Ok(_) => Ok(String::from_str(heap, "read")?),
         Err(fault) => Ok(format!(in heap; "{fault}")?),
     }
 }
 
-fn of_decimal(heap: Global, text: &[u8]) -> Result<String, Fail> {
-    match read_decimal(text) {
-        Ok(_) => Ok(String::from_str(heap, "read")?),
-        Err(fault) => Ok(format!(in heap; "{fault}")?),
-    }
-}
-
-fn of_frame(heap: Global, text: &[u8]) -> Result<String, Fail> {
-    match read_frame(text) {
-        Ok(_) => Ok(String::from_str(heap, "read")?),
-        Err(fault) => Ok(format!(in heap; "{fault}")?),
-    }
-}
-
-fn of_line(heap: Global, text: &[u8]) -> Result<String, Fail> {
-    match read_command(text, 1, 3) {
-        Ok(_) => Ok(String::from_str(heap, "read")?),
-        Err(fault) => Ok(format!(in heap; "{fault}")?),
-    }
-}
-
-fn of_call(heap: Global, text: &[u8]) -> Result<String, Fail> {
-    let said = match read_call(heap, text) {
-        Ok(_) => "read",
-        Err(Fault::Memory) => "no memory",
-        Err(Fault::Wrong(wrong)) => name(wrong),
-    };
-    Ok(String::from_str(heap, said)?)
-}
-
-fn name(wrong: Wrong) -> &'static str {
-    match wrong {
-        Wrong::Act => "act",
-        Wrong::Number => "number",
-        Wrong::Path => "path",
-        Wrong::Name => "name",
-        Wrong::Value => "value",
-        Wrong::Escape => "escape",
-        Wrong::Braces => "braces",
-        _ => "another",
+// Of a call's text, only which part is wrong.
+fn said_of_call(heap: Global, text: &[u8]) -> Result<String, Fail> {
+    match read_call(heap, text) {
+        Err(Fault::Wrong(wrong)) => Ok(format!(in heap; "{wrong:?}")?.to_ascii_lowercase(heap)?),
+        read => said_of(heap, read),
     }
 }
 
 fn said(heap: Global, reader: Reader, text: &[u8]) -> Result<String, Fail> {
     match reader {
-        Reader::Hex => of_hex(heap, text),
-        Reader::Decimal => of_decimal(heap, text),
-        Reader::Frame => of_frame(heap, text),
-        Reader::Line => of_line(heap, text),
-        Reader::Call => of_call(heap, text),
+        Reader::Hex => said_of(heap, read_hex(heap, text)),
+        Reader::Decimal => said_of(heap, read_decimal(text)),
+        Reader::Frame => said_of(heap, read_frame(text)),
+        Reader::Line => said_of(heap, read_command(text, 1, 3)),
+        Reader::Call => said_of_call(heap, text),
     }
 }
 

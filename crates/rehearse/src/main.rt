@@ -2,69 +2,37 @@
 #![tactic(auto)]
 
 mod play;
-mod refusals;
 mod scene;
 
 use play::play_command;
-use refusals::line_is_wrong;
 use scene::Scene;
 use script::lines::read_line;
 use std::io::{BufRead, BufReader};
 use std::{env, fs};
 
-// The line without its end.
-fn without_end(line: &[u8]) -> &[u8] {
-    match line.split_last() {
-        Some((b'\n', front)) => front,
-        _ => line,
-    }
-}
-
 fn play_line(rt: &HostRuntime, scene: &mut Scene, line: &[u8]) -> anyhow::Result<()> {
     scene.line = scene.line.wrapping_add(1);
-    match read_line(rt.alloc(), without_end(line)) {
+    match read_line(rt.alloc(), line) {
         Ok(command) => play_command(rt, scene, command),
-        Err(fault) => {
-            line_is_wrong(rt, scene.line, fault)?;
-            Ok(())
-        }
+        Err(fault) => Ok(scene.refuse(rt, fault)?),
     }
 }
 
-// A script as it is typed.
-fn play_typed(rt: &HostRuntime, scene: &mut Scene) -> anyhow::Result<()> {
-    let mut input = BufReader::new(rt.alloc(), rt.stdin())?;
-    let mut line = Vec::new(rt.alloc());
-    for _ in 0..u64::MAX {
-        line.clear();
-        if input.read_until(b'\n', &mut line)? == 0 {
-            break;
-        }
-        play_line(rt, scene, &line)?;
+fn play_lines<R: BufRead + Drop>(rt: &HostRuntime, scene: &mut Scene, script: R) -> anyhow::Result<()> {
+    for line in script.split(rt.alloc(), b'\n') {
+        play_line(rt, scene, &line?)?;
     }
     Ok(())
 }
 
-// A script from a file.
-fn play_file(rt: &HostRuntime, scene: &mut Scene, name: &str) -> anyhow::Result<()> {
-    let mut input = BufReader::new(rt.alloc(), fs::open(rt, name)?)?;
-    let mut line = Vec::new(rt.alloc());
-    for _ in 0..u64::MAX {
-        line.clear();
-        if input.read_until(b'\n', &mut line)? == 0 {
-            break;
-        }
-        play_line(rt, scene, &line)?;
-    }
-    Ok(())
-}
-
+// A script from a file, or as it is typed.
 fn play_script(rt: &HostRuntime, scene: &mut Scene) -> anyhow::Result<()> {
+    let heap = rt.alloc();
     let mut words = env::args(rt)?;
     let _program = words.next();
     match words.next() {
-        None => play_typed(rt, scene),
-        Some(name) => play_file(rt, scene, name.as_str()),
+        None => play_lines(rt, scene, BufReader::new(heap, rt.stdin())?),
+        Some(name) => play_lines(rt, scene, BufReader::new(heap, fs::open(rt, name.as_str())?)?),
     }
 }
 

@@ -1,20 +1,20 @@
 // What each line of a script does. Houses say nothing yet: `ask`, `hear` and `beat` are where a replica comes in.
-ghost use Rattle.std.specs.Prelude.{◌≡◌, false, ◌&&◌, Some, OnOk, nat_lt, slice_index_or};
+ghost use Rattle.std.specs.Prelude.{◌≡◌, IfOk, OnOk};
 ghost use Rattle.script.specs.Houses.{fell};
 ghost use Rattle.script.specs.Incarnations.{chosen};
-ghost use Rattle.rehearse.specs.Played.{or_as, woke_by, after, played};
+ghost use Rattle.rehearse.specs.Played.{or_as, woke_by, after, first, played};
 
-use crate::refusals::{forbidden, line_is_wrong, refuse, unfit};
 use crate::scene::Scene;
 use calls::answers::refused;
 use calls::screening::{NotLetIn, screen};
 use encoding::push_call as push_bytes;
 use replies::push_answer;
-use script::houses::Houses;
+use script::houses::{Forbidden, Houses};
 use script::incarnations::choose;
 use script::lines::{Command, Link};
-use script::network::{copies, part};
+use script::network::{Letter, copies, part};
 use spelling::wording::push_call;
+use std::alloc::{AllocError, Global};
 use std::io;
 use std::io::Write;
 use text::decimal::push_decimal;
@@ -22,10 +22,7 @@ use words::types::Call;
 
 // A house's answer to a call. Until there is a replica: a refusal, by 1 where the bytes are no call, else by 12.
 fn ask(bytes: &[u8]) -> [u8; 3] {
-    let why = match screen(bytes) {
-        Ok(_) => NotLetIn::NotBuilt,
-        Err(why) => why,
-    };
+    let why = screen(bytes).err().unwrap_or(NotLetIn::NotBuilt);
     refused(0, why.number())
 }
 
@@ -46,8 +43,7 @@ fn play_call(rt: &HostRuntime, scene: &Scene, house: u8, call: &Call) -> anyhow:
     let heap = rt.alloc();
     let mut bytes = Vec::new(heap);
     if let Err(fault) = push_bytes(&mut bytes, call) {
-        line_is_wrong(rt, scene.line, fault)?;
-        return Ok(());
+        return Ok(scene.refuse(rt, fault)?);
     }
     let answer = ask(&bytes);
     let mut line = Vec::new(heap);
@@ -59,79 +55,52 @@ fn play_call(rt: &HostRuntime, scene: &Scene, house: u8, call: &Call) -> anyhow:
         line.extend_from_slice(b"no answer")?;
     }
     line.extend_from_slice(b"\n")?;
-    write_line(rt, &line)?;
-    Ok(())
+    Ok(write_line(rt, &line)?)
 }
 
-fn is_up(houses: Houses, house: u8) -> bool
-    ensures { result ≡ (nat_lt house houses.all && (nat_lt house 7 && slice_index_or houses.up house false)) }
-{
-    house < houses.all && house < 7 && houses.up[house as usize]
-}
-
+// One house's clock, or all of them, where they are up.
 fn play_beat(houses: Houses, which: Option<u8>) {
     match which {
         Some(house) => {
-            if is_up(houses, house) {
+            if houses.is_up(house) {
                 beat(house);
             }
         }
-        None => {
-            for house in 0..houses.all {
-                if is_up(houses, house) {
-                    beat(house);
-                }
-            }
-        }
+        None => (0..houses.all)
+            .filter(|house| houses.is_up(*house))
+            .for_each(beat),
     }
 }
 
-// The letters of a link come, and are under way no more.
-fn play_pass(rt: &HostRuntime, scene: &mut Scene, houses: Houses, link: Option<Link>) -> anyhow::Result<()>
-    ensures { OnOk result (scene.new.houses ≡ scene.old.houses) }
+// The letters of a link, which are under way no more.
+fn take_letters(heap: Global, scene: &mut Scene, link: Option<Link>) -> Result<Vec<Letter>, AllocError>
+    ensures { OnOk result (scene.new.drawn.items ≡ scene.old.drawn.items) }
 {
-    let heap = rt.alloc();
     let letters = std::mem::replace(&mut scene.letters, Vec::new(heap));
     let parted = part(heap, letters, link)?;
     scene.letters = parted.left;
-    for letter in parted.taken {
-        if is_up(houses, letter.to) {
+    Ok(parted.taken)
+}
+
+// Letters come at the houses that are up.
+fn come(houses: Houses, letters: Vec<Letter>) {
+    for letter in letters {
+        if houses.is_up(letter.to) {
             hear(letter.to, letter.from, &letter.bytes);
         }
     }
-    Ok(())
 }
 
-// They are lost.
-fn play_lose(rt: &HostRuntime, scene: &mut Scene, link: Option<Link>) -> anyhow::Result<()>
-    ensures { OnOk result (scene.new.houses ≡ scene.old.houses) }
-{
-    let heap = rt.alloc();
-    let letters = std::mem::replace(&mut scene.letters, Vec::new(heap));
-    let parted = part(heap, letters, link)?;
-    scene.letters = parted.left;
-    Ok(())
-}
-
-// They come, and stay under way.
-fn play_twice(rt: &HostRuntime, scene: &Scene, houses: Houses, link: Option<Link>) -> anyhow::Result<()> {
-    for letter in copies(rt.alloc(), &scene.letters, link)? {
-        if is_up(houses, letter.to) {
-            hear(letter.to, letter.from, &letter.bytes);
-        }
-    }
-    Ok(())
-}
-
-fn play_fall(rt: &HostRuntime, scene: &mut Scene, houses: Houses, house: u8) -> anyhow::Result<()>
-    requires { scene.old.houses ≡ Some houses }
-    ensures { OnOk result (scene.new.houses ≡ Some (or_as houses (fell houses house))) }
+fn play_fall(rt: &HostRuntime, scene: &Scene, houses: Houses, house: u8) -> io::Result<Houses>
+    ensures { IfOk result (λ h. h ≡ or_as houses (fell houses house)) }
 {
     match houses.fall(house) {
-        Ok(houses) => scene.houses = Some(houses),
-        Err(why) => forbidden(rt, scene.line, why)?,
+        Ok(houses) => Ok(houses),
+        Err(why) => {
+            scene.refuse(rt, why)?;
+            Ok(houses)
+        }
     }
-    Ok(())
 }
 
 fn play_wake(
@@ -140,25 +109,26 @@ fn play_wake(
     houses: Houses,
     house: u8,
     named: Option<u64>,
-) -> anyhow::Result<()>
-    requires { scene.old.houses ≡ Some houses }
-    ensures { OnOk result (scene.new.houses ≡ Some (woke_by houses house (chosen scene.old.drawn.items named))) }
+) -> anyhow::Result<Houses>
+    ensures { IfOk result (λ h. h ≡ woke_by houses house (chosen scene.old.drawn.items named)) }
 {
     let incarnation = match choose(&scene.drawn, named) {
         Ok(incarnation) => incarnation,
         Err(why) => {
-            unfit(rt, scene.line, why)?;
-            return Ok(());
+            scene.refuse(rt, why)?;
+            return Ok(houses);
         }
     };
     match houses.wake(house) {
         Ok(houses) => {
-            scene.houses = Some(houses);
             scene.draw(incarnation)?;
+            Ok(houses)
         }
-        Err(why) => forbidden(rt, scene.line, why)?,
+        Err(why) => {
+            scene.refuse(rt, why)?;
+            Ok(houses)
+        }
     }
-    Ok(())
 }
 
 fn play_at(
@@ -169,65 +139,66 @@ fn play_at(
     call: &Call,
 ) -> anyhow::Result<()> {
     if house >= houses.all {
-        refuse(rt, scene.line, "there is no such house")?;
-        return Ok(());
+        return Ok(scene.refuse(rt, Forbidden::NoHouse)?);
     }
-    if !is_up(houses, house) {
-        refuse(rt, scene.line, "this house is down")?;
-        return Ok(());
+    if !houses.is_up(house) {
+        return Ok(scene.refuse(rt, "this house is down")?);
     }
     play_call(rt, scene, house, call)
 }
 
-// Once it is said how many houses there are.
+// Once it is said how many houses there are: the houses afterwards.
 fn play_among(
     rt: &HostRuntime,
     scene: &mut Scene,
     houses: Houses,
     command: Command,
-) -> anyhow::Result<()>
-    requires { scene.old.houses ≡ Some houses }
-    ensures { OnOk result (scene.new.houses ≡ Some (after houses scene.old.drawn.items command)) }
+) -> anyhow::Result<Houses>
+    ensures { IfOk result (λ h. h ≡ after houses scene.old.drawn.items command) }
 {
+    let heap = rt.alloc();
     match command {
         Command::Nothing => {}
-        Command::Houses { count: _, room: _ } => refuse(
-            rt,
-            scene.line,
-            "it was said already how many houses there are",
-        )?,
+        Command::Houses { count: _, room: _ } => {
+            scene.refuse(rt, "it was said already how many houses there are")?;
+        }
         Command::At(house, call) => play_at(rt, scene, houses, house, &call)?,
         Command::Beat(which) => play_beat(houses, which),
-        Command::Pass(link) => play_pass(rt, scene, houses, link)?,
-        Command::Lose(link) => play_lose(rt, scene, link)?,
-        Command::Twice(link) => play_twice(rt, scene, houses, link)?,
-        Command::Fall(house) => play_fall(rt, scene, houses, house)?,
-        Command::Wake(house, named) => play_wake(rt, scene, houses, house, named)?,
-        Command::Run { seed: _, steps: _ } => refuse(
-            rt,
-            scene.line,
-            "runs by a seed are not built yet",
-        )?,
+        Command::Pass(link) => come(houses, take_letters(heap, scene, link)?),
+        Command::Lose(link) => {
+            take_letters(heap, scene, link)?;
+        }
+        Command::Twice(link) => come(houses, copies(heap, &scene.letters, link)?),
+        Command::Fall(house) => return Ok(play_fall(rt, scene, houses, house)?),
+        Command::Wake(house, named) => return play_wake(rt, scene, houses, house, named),
+        Command::Run { seed: _, steps: _ } => scene.refuse(rt, "runs by a seed are not built yet")?,
     }
-    Ok(())
+    Ok(houses)
+}
+
+// Before it is said.
+fn play_first(rt: &HostRuntime, scene: &Scene, command: Command) -> io::Result<Option<Houses>>
+    ensures { IfOk result (λ h. h ≡ first command) }
+{
+    match command {
+        Command::Nothing => Ok(None),
+        Command::Houses { count, room: _ } => Ok(Some(Houses::begin(count))),
+        _ => {
+            scene.refuse(
+                rt,
+                "first it is said how many houses there are, as: houses 3",
+            )?;
+            Ok(None)
+        }
+    }
 }
 
 pub fn play_command(rt: &HostRuntime, scene: &mut Scene, command: Command) -> anyhow::Result<()>
     ensures { OnOk result (scene.new.houses ≡ played scene.old.houses scene.old.drawn.items command) }
 {
-    match scene.houses {
-        Some(houses) => play_among(rt, scene, houses, command),
-        None => {
-            match command {
-                Command::Nothing => {}
-                Command::Houses { count, room: _ } => scene.houses = Some(Houses::begin(count)),
-                _ => refuse(
-                    rt,
-                    scene.line,
-                    "first it is said how many houses there are, as: houses 3",
-                )?,
-            }
-            Ok(())
-        }
-    }
+    scene.houses = match scene.houses {
+        Some(houses) => Some(play_among(rt, scene, houses, command)?),
+        None => play_first(rt, scene, command)?,
+    };
+    Ok(())
 }

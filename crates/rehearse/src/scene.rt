@@ -4,6 +4,8 @@ ghost use Rattle.std.specs.Prelude.{◌≡◌, [], ◌∷◌, ◌++◌, None, On
 use script::houses::Houses;
 use script::network::Letter;
 use std::alloc::{AllocError, Global};
+use std::fmt::Display;
+use std::io;
 
 #[derive(Drop)]
 pub struct Scene {
@@ -26,6 +28,12 @@ impl Scene {
             letters: Vec::new(heap),
             drawn: Vec::new(heap),
         }
+    }
+
+    // Says why the line is not played; nothing is done of it.
+    pub fn refuse<E: Display + Drop>(&self, rt: &HostRuntime, why: E) -> io::Result<()> {
+        let line = self.line;
+        println!(rt; "line {line}: {why}")
     }
 
     pub fn draw(&mut self, incarnation: u64) -> Result<(), AllocError>

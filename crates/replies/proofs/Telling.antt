@@ -1,27 +1,15 @@
 -- Several things of one kind that are read and told in words, one behind the other: what a loop over them keeps. Assumes nothing.
-use Rattle.std.proofs.Common.{◌≡◌, ℕ, suc, ◌+◌, ◌-◌, ◌<◌, List, ◌∷◌, ◌++◌, Some, None, codes, Option, sym, refl, ap, ◌∙◌, append_assoc, arith}
+use Rattle.std.proofs.Common.{◌≡◌, ℕ, suc, ◌+◌, ◌-◌, ◌<◌, List, ◌∷◌, ◌++◌, Some, None, Ok, Err, Bor, Option, Result, subst, sym, refl, ap, ◌∙◌, append_assoc, arith}
+use Rattle.std.specs.Result.{IsErr, IsErrAnd}
+use Rattle.std.proofs.lemmas.Bool.{false≢true}
 use Rattle.std.proofs.lemmas.List.{append-nil}
-use Rattle.calls.specs.Format.{and_then, byte_at, part_at, name_at, names_at, path_at, many_at}
+use Rattle.calls.specs.Format.{and_then, many_at}
 use Rattle.calls.proofs.Back.{some_parts}
 use Rattle.spelling.specs.Spelled.{many}
-use Rattle.replies.specs.Answers.{name_behind, path_behind, told}
-
--- a text in front belongs to what is told, or to what was there
-pub told_behind : {A : Type 0} (w : A → List ℕ) (t s : List ℕ) (o : Option (A × List ℕ)) → told w (t ++ s) o ≡ told (λ (x : A). s ++ w x) t o
-told_behind w t s None = refl
-told_behind w t s (Some r) = ap (λ (l : List ℕ). Some (l, r.1)) (append_assoc t s (w r.0))
-
-pub name_told : (sep t bs : List ℕ) (n : ℕ) (rest p ys u : List ℕ) →
-    Some (n, rest) ≡ byte_at bs → Some (p, ys) ≡ part_at n rest → u ≡ t ++ name_behind sep p → Some (u, ys) ≡ told (name_behind sep) t (name_at bs)
-name_told sep t bs n rest p ys u first second e =
-    let read : name_at bs ≡ Some (p, ys) = ap (λ (o : Option (ℕ × List ℕ)). and_then o (λ k. part_at k.0 k.1)) (sym first) ∙ sym second in
-    ap (λ (l : List ℕ). Some (l, ys)) e ∙ sym (ap (told (name_behind sep) t) read)
-
-pub path_told : (t bs : List ℕ) (n : ℕ) (rest : List ℕ) (x : Option (List ℕ × List ℕ)) →
-    Some (n, rest) ≡ byte_at bs → x ≡ told (many (name_behind (codes "/"))) (t ++ codes " ") (names_at n rest) → x ≡ told path_behind t (path_at bs)
-path_told t bs n rest x first e =
-    e ∙ (told_behind (many (name_behind (codes "/"))) t (codes " ") (names_at n rest)
-    ∙ ap (λ (o : Option (ℕ × List ℕ)). told path_behind t (and_then o (λ k. names_at k.0 k.1))) first)
+use Rattle.replies.specs.declared.untold.Untold.{Untold}
+use Rattle.replies.specs.declared.untold.Untold.TheVariants.{NoAnswer, Memory}
+use Rattle.replies.specs.Answers.{told}
+use Rattle.replies.specs.Telling.{Left}
 
 module _ {A : Type 0} (f : List ℕ → Option (A × List ℕ)) (w : A → List ℕ) where
   first_told : (x : A) (t : List ℕ) (o : Option (List A × List ℕ)) → told (many w) t (and_then o (λ q. Some (x ∷ q.0, q.1))) ≡ told (many w) (t ++ w x) o
@@ -65,3 +53,12 @@ module _ {A : Type 0} (f : List ℕ → Option (A × List ℕ)) (w : A → List 
     told_stop e =
         let s : n - i ≡ suc (n - (i + 1)) = omega arith in
         ap (λ (k : ℕ). told (many w) t (many_at f k xs)) s ∙ none_told (n - (i + 1)) t xs e
+
+-- where a part is not told, the whole is not
+pub left_stop : (r : Result (Bor (List ℕ)) Untold) (e : Untold) (u : List ℕ) (s s' : Option (List ℕ × List ℕ)) → IsErr r × IsErrAnd r (λ x. x ≡ e) → (None ≡ s → None ≡ s') → Left (Err e) u s → Left r u s'
+left_stop (Ok x) e u s s' w f h = absurd (false≢true w.0)
+left_stop (Err x) e u s s' w f h = subst (λ (y : Untold). Left (Err y) u s') (sym w.1) (go e h)
+  where
+    go : (y : Untold) → Left (Err y) u s → Left (Err y) u s'
+    go NoAnswer k = f k
+    go Memory k = tt

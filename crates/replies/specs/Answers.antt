@@ -1,6 +1,5 @@
 -- Answers in words.
 use Rattle.std.specs.Prelude.{◌≡◌, ℕ, Bool, true, false, cond, List, ◌++◌, Some, None, codes, decimal, Option, ◌==◌}
-use Rattle.std.specs.Borrow.{Bor}
 use Rattle.model.specs.Tree.{Name, Path, Reply, No, Done, Entry', Names, Session}
 use Rattle.spelling.specs.Spelled.{many, chars_spelled, value_spelled}
 
@@ -44,11 +43,6 @@ reply_spelled (Session k) = count_spelled (codes "session ") k
 abbrev pub Spelled : Option Reply → Bool → (before after : List ℕ) → Type 0
 Spelled None b before after = (b ≡ false) × (after ≡ before)
 Spelled (Some r) b before after = (b ≡ true) × (after ≡ before ++ reply_spelled r)
-
--- a text with the bytes that are left, where something was read
-abbrev pub with_rest : List ℕ → Option (Bor (List ℕ)) → Option (List ℕ × List ℕ)
-with_rest text None = None
-with_rest text (Some r) = Some (text, r.now)
 
 -- the text with what was read in words behind it, and the bytes that are left
 abbrev pub told : {A : Type 0} → (A → List ℕ) → List ℕ → Option (A × List ℕ) → Option (List ℕ × List ℕ)

@@ -2,3 +2,4 @@
 pub mod Answers
 pub mod ByShape
 pub mod Reading
+pub mod Telling

@@ -1,20 +1,19 @@
 -- Which incarnations there were, and one that was not there yet. Assumes nothing.
-use Rattle.std.specs.Prelude.{◌≡◌, ℕ, ◌+◌, max, Bool, false, cond, ◌||◌, List, [], ◌∷◌, Some, None, Ok, Err, Option, Result, ◌==◌, nat_lt}
+use Rattle.std.specs.Prelude.{◌≡◌, ℕ, ◌+◌, max, Bool, false, cond, ◌||◌, List, Some, None, Ok, Err, Option, Result, ◌==◌, nat_lt}
+use Rattle.std.specs.List.{list_any, fold}
 use Rattle.std.specs.Option.{option_or}
 use Rattle.script.specs.declared.incarnations.Unfit.{Unfit}
 use Rattle.script.specs.declared.incarnations.Unfit.TheVariants.{NoneLeft, WasThere}
 
-unfoldable pub is_drawn : ℕ → List ℕ → Bool
-is_drawn n [] = false
-is_drawn n (d ∷ ds) = d == n || is_drawn n ds
+abbrev pub is_drawn : ℕ → List ℕ → Bool
+is_drawn n ds = list_any (λ d. d == n) ds
 
 -- 0 was that of the first beginning
 abbrev pub was_there : ℕ → List ℕ → Bool
 was_there n ds = n == 0 || is_drawn n ds
 
-unfoldable pub highest : ℕ → List ℕ → ℕ
-highest m [] = m
-highest m (d ∷ ds) = highest (max m d) ds
+abbrev pub highest : ℕ → List ℕ → ℕ
+highest m ds = fold max m ds
 
 -- one more than the highest, where that has 64 bits
 abbrev pub fresh_of : List ℕ → Option ℕ

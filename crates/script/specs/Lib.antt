@@ -3,3 +3,4 @@ pub mod Lines
 pub mod Network
 pub mod Houses
 pub mod Incarnations
+pub mod Said

@@ -1,16 +1,43 @@
 // Which houses are up, and which are frail: fallen, and not yet whole again.
-ghost use Rattle.std.specs.Prelude.{◌≡◌};
-ghost use Rattle.script.specs.Houses.{one_if, frail_count, begun, fell, woke};
+ghost use Rattle.std.specs.Prelude.{◌≡◌, ◌≤◌, length};
+ghost use Rattle.script.specs.Houses.{is_up, is_frail, frail_count, place_of, house_is_up, begun, fell, woke};
 
+use std::fmt;
+
+// What a house is like.
+#[derive(Clone, Copy, Debug, PartialEq, Eq)]
+pub enum House {
+    // up and whole
+    Whole,
+    // up, and not yet whole again since it fell
+    Frail,
+    // fallen, and so frail too
+    Down,
+}
+
+impl House {
+    pub fn is_up(self) -> bool
+        ensures { result ≡ is_up self }
+    {
+        !matches!(self, House::Down)
+    }
+
+    pub fn is_frail(self) -> bool
+        ensures { result ≡ is_frail self }
+    {
+        !matches!(self, House::Whole)
+    }
+}
+
+// How many houses there are, and what each of the seven that there may be is like.
 #[derive(Clone, Copy)]
 pub struct Houses {
     pub all: u8,
-    pub up: [bool; 7],
-    pub frail: [bool; 7],
+    pub each: [House; 7],
 }
 
 // Why a house may not fall or wake.
-#[derive(Clone, Copy)]
+#[derive(Clone, Copy, Debug, PartialEq, Eq)]
 pub enum Forbidden {
     // there is no such house
     NoHouse,
@@ -20,22 +47,26 @@ pub enum Forbidden {
     TooMany,
 }
 
-fn one(b: bool) -> u8
-    ensures { result ≡ one_if b }
-{
-    if b { 1 } else { 0 }
+impl fmt::Display for Forbidden {
+    ghost use Rattle.std.specs.Prelude.{Some};
+    ghost use Rattle.script.specs.Said.{forbidden_said};
+
+    ghost output = { λ why. Some (forbidden_said why) };
+
+    fn fmt<W: fmt::Write>(&self, f: &mut fmt::Formatter<W>) -> fmt::Result {
+        f.write_str(match self {
+            Forbidden::NoHouse => "there is no such house",
+            Forbidden::Already => "it is so already",
+            Forbidden::TooMany => "with it, half of the houses or more would be frail",
+        })
+    }
 }
 
-fn count(frail: [bool; 7]) -> u8
-    ensures { result ≡ frail_count frail }
+fn count_frail(each: &[House]) -> usize
+    ensures count { result ≡ frail_count each.now }
+    ensures few { result ≤ length each.now }
 {
-    one(frail[0])
-        + one(frail[1])
-        + one(frail[2])
-        + one(frail[3])
-        + one(frail[4])
-        + one(frail[5])
-        + one(frail[6])
+    each.iter().filter(|house| house.is_frail()).count()
 }
 
 impl Houses {
@@ -45,25 +76,37 @@ impl Houses {
     {
         Houses {
             all,
-            up: [true; 7],
-            frail: [false; 7],
+            each: [House::Whole; 7],
         }
+    }
+
+    // The place of a house among the seven, if there is one of this number.
+    fn place(self, house: u8) -> Result<usize, Forbidden>
+        ensures { result ≡ place_of self house }
+    {
+        if house >= self.all || house >= 7 {
+            return Err(Forbidden::NoHouse);
+        }
+        Ok(house as usize)
+    }
+
+    // Is there a house of this number, and is it up?
+    pub fn is_up(self, house: u8) -> bool
+        ensures { result ≡ house_is_up self house }
+    {
+        house < self.all && house < 7 && self.each[house as usize].is_up()
     }
 
     // A house falls only while, with it, fewer than half are frail.
     pub fn fall(mut self, house: u8) -> Result<Houses, Forbidden>
         ensures { result ≡ fell self house }
     {
-        if house >= self.all || house >= 7 {
-            return Err(Forbidden::NoHouse);
-        }
-        let i = house as usize;
-        if !self.up[i] {
+        let place = self.place(house)?;
+        if !self.each[place].is_up() {
             return Err(Forbidden::Already);
         }
-        self.up[i] = false;
-        self.frail[i] = true;
-        if 2 * (count(self.frail) as u16) < self.all as u16 {
+        self.each[place] = House::Down;
+        if 2 * count_frail(&self.each) < self.all as usize {
             Ok(self)
         } else {
             Err(Forbidden::TooMany)
@@ -74,14 +117,11 @@ impl Houses {
     pub fn wake(mut self, house: u8) -> Result<Houses, Forbidden>
         ensures { result ≡ woke self house }
     {
-        if house >= self.all || house >= 7 {
-            return Err(Forbidden::NoHouse);
-        }
-        let i = house as usize;
-        if self.up[i] {
+        let place = self.place(house)?;
+        if self.each[place].is_up() {
             return Err(Forbidden::Already);
         }
-        self.up[i] = true;
+        self.each[place] = House::Frail;
         Ok(self)
     }
 }

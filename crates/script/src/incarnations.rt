@@ -1,9 +1,11 @@
 // Which incarnations there were, and one that was not there yet.
 ghost use Rattle.std.specs.Prelude.{◌≡◌};
-ghost use Rattle.script.specs.Incarnations.{is_drawn, was_there, highest, fresh_of, New, chosen};
+ghost use Rattle.script.specs.Incarnations.{was_there, highest, fresh_of, New, chosen};
+
+use std::fmt;
 
 // Why no incarnation can be taken.
-#[derive(Clone, Copy)]
+#[derive(Clone, Copy, Debug, PartialEq, Eq)]
 pub enum Unfit {
     // the highest number was drawn
     NoneLeft,
@@ -11,32 +13,31 @@ pub enum Unfit {
     WasThere,
 }
 
-fn is_drawn(drawn: &[u64], incarnation: u64) -> bool
-    ensures { result ≡ is_drawn incarnation drawn.now }
-{
-    for one in drawn {
-        if *one == incarnation {
-            return true;
-        }
+impl fmt::Display for Unfit {
+    ghost use Rattle.std.specs.Prelude.{Some};
+    ghost use Rattle.script.specs.Said.{unfit_said};
+
+    ghost output = { λ why. Some (unfit_said why) };
+
+    fn fmt<W: fmt::Write>(&self, f: &mut fmt::Formatter<W>) -> fmt::Result {
+        f.write_str(match self {
+            Unfit::NoneLeft => "no incarnation is left",
+            Unfit::WasThere => "this incarnation was there before",
+        })
     }
-    false
 }
 
 // Was this incarnation there before: it was drawn, or is 0, which was that of the first beginning.
 pub fn was_there(drawn: &[u64], incarnation: u64) -> bool
     ensures { result ≡ was_there incarnation drawn.now }
 {
-    incarnation == 0 || is_drawn(drawn, incarnation)
+    incarnation == 0 || drawn.contains(&incarnation)
 }
 
 fn highest_of(drawn: &[u64]) -> u64
     ensures { result ≡ highest 0 drawn.now }
 {
-    let mut most: u64 = 0;
-    for one in drawn {
-        most = most.max(*one);
-    }
-    most
+    drawn.iter().max().copied().unwrap_or(0)
 }
 
 // One that was not there before: more than all of them; none where the highest number was drawn.
@@ -44,21 +45,14 @@ pub fn fresh(drawn: &[u64]) -> Option<u64>
     ensures is { result ≡ fresh_of drawn.now }
     ensures new { New drawn.now result }
 {
-    let most = highest_of(drawn);
-    if most < 18446744073709551615 {
-        Some(most + 1)
-    } else {
-        None
-    }
+    highest_of(drawn).checked_add(1)
 }
 
 // The one that is named, if it was not there before; else a fresh one.
 pub fn choose(drawn: &[u64], named: Option<u64>) -> Result<u64, Unfit>
     ensures { result ≡ chosen drawn.now named }
 {
-    let Some(incarnation) = named.or(fresh(drawn)) else {
-        return Err(Unfit::NoneLeft);
-    };
+    let incarnation = named.or(fresh(drawn)).ok_or(Unfit::NoneLeft)?;
     if was_there(drawn, incarnation) {
         return Err(Unfit::WasThere);
     }

@@ -1,4 +1,5 @@
 // Calls in words.
+// Printing is by functions that write behind what a Vec holds, and no impl of Display: answers and lines are put together from several such pieces where only memory can be wanting; a Display would make a String of each piece first, and the caller would copy it.
 ghost use Rattle.std.specs.Prelude.{◌≡◌, false, ◌++◌, map, OnOk};
 ghost use Rattle.calls.specs.Reading.{expect_of};
 ghost use Rattle.words.specs.Values.{name_of, path_of, act_of, call_of};
@@ -10,13 +11,14 @@ use std::alloc::{AllocError, Global};
 use text::decimal::push_decimal;
 use text::hex::hex_digit;
 use words::reading::is_end;
-use words::types::{Act, Call, Name, Path};
+use words::types::{Act, Call, Path};
 
+// Writes a text behind what is there.
+// kept: as at the head of this file, Display would want a String first
 pub fn push_text(out: &mut Vec<u8>, text: &str) -> Result<(), AllocError>
     ensures { OnOk result (out.new.items ≡ out.old.items ++ text.now) }
 {
-    out.extend_from_slice(text.as_bytes())?;
-    Ok(())
+    out.extend_from_slice(text.as_bytes())
 }
 
 fn is_plain(quoted: bool, c: u8) -> bool
@@ -25,21 +27,22 @@ fn is_plain(quoted: bool, c: u8) -> bool
     32 <= c && c <= 126 && !is_end(quoted, c) && c != b'\\'
 }
 
+// kept: as at the head of this file, Display would want a String first
 fn push_char(out: &mut Vec<u8>, quoted: bool, c: u8) -> Result<(), AllocError>
     ensures { OnOk result (out.new.items ≡ out.old.items ++ char_spelled quoted c) }
 {
     if is_plain(quoted, c) {
-        out.extend_from_slice(&[c])?;
+        out.extend_from_slice(&[c])
     } else if c == b'"' || c == b'\\' {
-        out.extend_from_slice(&[b'\\', c])?;
+        out.extend_from_slice(&[b'\\', c])
     } else if c == b'\n' {
-        out.extend_from_slice(b"\\n")?;
+        out.extend_from_slice(b"\\n")
     } else {
-        out.extend_from_slice(&[b'\\', b'x', hex_digit(c / 16), hex_digit(c % 16)])?;
+        out.extend_from_slice(&[b'\\', b'x', hex_digit(c / 16), hex_digit(c % 16)])
     }
-    Ok(())
 }
 
+// kept: as at the head of this file, Display would want a String first
 fn push_chars(out: &mut Vec<u8>, quoted: bool, chars: &[u8]) -> Result<(), AllocError>
     ensures { OnOk result (out.new.items ≡ out.old.items ++ chars_spelled quoted chars.now) }
 {
@@ -49,52 +52,40 @@ fn push_chars(out: &mut Vec<u8>, quoted: bool, chars: &[u8]) -> Result<(), Alloc
     Ok(())
 }
 
+// A value in quotes.
+// kept: as at the head of this file, Display would want a String first
 pub fn push_value(out: &mut Vec<u8>, value: &[u8]) -> Result<(), AllocError>
     ensures { OnOk result (out.new.items ≡ out.old.items ++ value_spelled value.now) }
 {
     push_text(out, "\"")?;
     push_chars(out, true, value)?;
-    push_text(out, "\"")?;
-    Ok(())
+    push_text(out, "\"")
 }
 
 // A name without a / in front of it.
+// kept: as at the head of this file, Display would want a String first
 pub fn push_name(out: &mut Vec<u8>, name: &[u8]) -> Result<(), AllocError>
     ensures { OnOk result (out.new.items ≡ out.old.items ++ chars_spelled false name.now) }
 {
-    push_chars(out, false, name)?;
-    Ok(())
-}
-
-fn push_slash_name(out: &mut Vec<u8>, name: &Name) -> Result<(), AllocError>
-    ensures { OnOk result (out.new.items ≡ out.old.items ++ name_spelled (name_of name.now)) }
-{
-    push_text(out, "/")?;
-    push_name(out, &name.0)?;
-    Ok(())
-}
-
-fn push_names(out: &mut Vec<u8>, names: &[Name]) -> Result<(), AllocError>
-    ensures { OnOk result (out.new.items ≡ out.old.items ++ many name_spelled (map name_of names.now)) }
-{
-    for name in names {
-        push_slash_name(out, name)?;
-    }
-    Ok(())
+    push_chars(out, false, name)
 }
 
 // A path of no names is a / alone.
+// kept: as at the head of this file, Display would want a String first
 fn push_path(out: &mut Vec<u8>, path: &Path) -> Result<(), AllocError>
     ensures { OnOk result (out.new.items ≡ out.old.items ++ path_spelled (path_of path.now)) }
 {
     if path.0.is_empty() {
-        push_text(out, "/")?;
-        return Ok(());
+        return push_text(out, "/");
     }
-    push_names(out, &path.0)?;
+    for name in &path.0 {
+        push_text(out, "/")?;
+        push_name(out, &name.0)?;
+    }
     Ok(())
 }
 
+// kept: as at the head of this file, Display would want a String first
 fn push_expected(heap: Global, out: &mut Vec<u8>, expected: Expected) -> Result<(), AllocError>
     ensures { OnOk result (out.new.items ≡ out.old.items ++ expect_spelled (expect_of expected)) }
 {
@@ -102,21 +93,19 @@ fn push_expected(heap: Global, out: &mut Vec<u8>, expected: Expected) -> Result<
         Expected::Any => Ok(()),
         Expected::Exactly(version) => {
             push_text(out, " version ")?;
-            push_decimal(heap, out, version.0)?;
-            Ok(())
+            push_decimal(heap, out, version.0)
         }
     }
 }
 
+// kept: as at the head of this file, Display would want a String first
 fn push_numbered(out: &mut Vec<u8>, numbered: bool) -> Result<(), AllocError>
     ensures { OnOk result (out.new.items ≡ out.old.items ++ numbered_spelled numbered) }
 {
-    if numbered {
-        push_text(out, " numbered")?;
-    }
-    Ok(())
+    push_text(out, if numbered { " numbered" } else { "" })
 }
 
+// kept: as at the head of this file, Display would want a String first
 fn push_session(heap: Global, out: &mut Vec<u8>, session: Session) -> Result<(), AllocError>
     ensures { OnOk result (out.new.items ≡ out.old.items ++ session_spelled session.0) }
 {
@@ -124,20 +113,21 @@ fn push_session(heap: Global, out: &mut Vec<u8>, session: Session) -> Result<(),
         return Ok(());
     }
     push_text(out, " session ")?;
-    push_decimal(heap, out, session.0)?;
-    Ok(())
+    push_decimal(heap, out, session.0)
 }
 
 // A path, and a value behind it.
+// kept: as at the head of this file, Display would want a String first
 fn push_both(out: &mut Vec<u8>, path: &Path, value: &[u8]) -> Result<(), AllocError>
     ensures { OnOk result (out.new.items ≡ out.old.items ++ both_spelled (path_of path.now) value.now) }
 {
     push_path(out, path)?;
     push_text(out, " ")?;
-    push_value(out, value)?;
-    Ok(())
+    push_value(out, value)
 }
 
+#[tactic(auto, unfolding(crate::specs::Spelled::act_spelled))]
+// kept: as at the head of this file, Display would want a String first
 fn push_act(heap: Global, out: &mut Vec<u8>, act: &Act) -> Result<(), AllocError>
     ensures { OnOk result (out.new.items ≡ out.old.items ++ act_spelled (act_of act.now)) }
 {
@@ -151,7 +141,7 @@ fn push_act(heap: Global, out: &mut Vec<u8>, act: &Act) -> Result<(), AllocError
             push_text(out, "make ")?;
             push_both(out, path, value)?;
             push_numbered(out, *numbered)?;
-            push_session(heap, out, *session)?;
+            push_session(heap, out, *session)
         }
         Act::Put {
             path,
@@ -160,84 +150,66 @@ fn push_act(heap: Global, out: &mut Vec<u8>, act: &Act) -> Result<(), AllocError
         } => {
             push_text(out, "put ")?;
             push_both(out, path, value)?;
-            push_expected(heap, out, *expected)?;
+            push_expected(heap, out, *expected)
         }
         Act::Drop { path, expected } => {
             push_text(out, "drop ")?;
             push_path(out, path)?;
-            push_expected(heap, out, *expected)?;
+            push_expected(heap, out, *expected)
         }
         Act::Check { path, expected } => {
             push_text(out, "check ")?;
             push_path(out, path)?;
-            push_expected(heap, out, *expected)?;
+            push_expected(heap, out, *expected)
         }
     }
-    Ok(())
 }
 
-fn push_piece(heap: Global, out: &mut Vec<u8>, act: &Act) -> Result<(), AllocError>
-    ensures { OnOk result (out.new.items ≡ out.old.items ++ piece_spelled (act_of act.now)) }
-{
-    push_text(out, " ")?;
-    push_act(heap, out, act)?;
-    push_text(out, ";")?;
-    Ok(())
-}
-
-fn push_pieces(heap: Global, out: &mut Vec<u8>, acts: &[Act]) -> Result<(), AllocError>
-    ensures { OnOk result (out.new.items ≡ out.old.items ++ many piece_spelled (map act_of acts.now)) }
-{
-    for act in acts {
-        push_piece(heap, out, act)?;
-    }
-    Ok(())
-}
-
+// Acts in braces.
+// kept: as at the head of this file, Display would want a String first
 fn push_braced(heap: Global, out: &mut Vec<u8>, acts: &[Act]) -> Result<(), AllocError>
     ensures { OnOk result (out.new.items ≡ out.old.items ++ braced_spelled (map act_of acts.now)) }
 {
     push_text(out, "do {")?;
-    push_pieces(heap, out, acts)?;
-    push_text(out, " }")?;
-    Ok(())
+    for act in acts {
+        push_text(out, " ")?;
+        push_act(heap, out, act)?;
+        push_text(out, ";")?;
+    }
+    push_text(out, " }")
 }
 
 // One act stands alone, any other number of them in braces.
+// kept: as at the head of this file, Display would want a String first
 fn push_do(heap: Global, out: &mut Vec<u8>, acts: &[Act]) -> Result<(), AllocError>
     ensures { OnOk result (out.new.items ≡ out.old.items ++ do_spelled (map act_of acts.now)) }
 {
-    if acts.len() == 1 {
-        push_act(heap, out, &acts[0])?;
-        return Ok(());
+    match acts {
+        [act] => push_act(heap, out, act),
+        _ => push_braced(heap, out, acts),
     }
-    push_braced(heap, out, acts)?;
-    Ok(())
 }
 
 // Writes the call in words behind what is there.
+#[tactic(auto, unfolding(crate::specs::Spelled::call_spelled))]
+// kept: as at the head of this file, Display would want a String first
 pub fn push_call(heap: Global, out: &mut Vec<u8>, call: &Call) -> Result<(), AllocError>
     ensures { OnOk result (out.new.items ≡ out.old.items ++ call_spelled (call_of call.now)) }
 {
     match call {
-        Call::Do(acts) => {
-            push_do(heap, out, acts)?;
-        }
+        Call::Do(acts) => push_do(heap, out, acts),
         Call::Look(path) => {
             push_text(out, "look ")?;
-            push_path(out, path)?;
+            push_path(out, path)
         }
         Call::Kids(path) => {
             push_text(out, "kids ")?;
-            push_path(out, path)?;
+            push_path(out, path)
         }
-        Call::Open => {
-            push_text(out, "open")?;
-        }
+        Call::Open => push_text(out, "open"),
         Call::End(session) => {
             push_text(out, "end ")?;
-            push_decimal(heap, out, session.0)?;
+            push_decimal(heap, out, session.0)
         }
     }
-    Ok(())
 }

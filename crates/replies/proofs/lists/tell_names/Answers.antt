@@ -1,20 +1,19 @@
 -- Each turn tells one of them.
-use Rattle.std.proofs.Common.{vec_items, sym, ap, ◌∙◌, arith}
+use Rattle.std.proofs.Common.{vec_items, sym, ◌∙◌, arith}
 use Rattle.calls.specs.Format.{name_at}
-use Rattle.replies.specs.Answers.{name_behind, with_rest}
-use Rattle.replies.proofs.Telling.{told_step, told_stop, told_end}
+use Rattle.replies.specs.Answers.{told, name_behind}
+use Rattle.replies.proofs.Telling.{told_step, told_stop, told_end, left_stop}
 use Rattle.replies.proofs.lists.tell_names.Goals as goal
 
-pub returns-in_default : goal.returns-in_default
-returns-in_default c =
-    sym (told_stop name_at (name_behind c.args.before.now) c.args.count c.loop.counter (vec_items c.loop.out) c.loop.rest.now c.loop-test.true (ap (with_rest (vec_items c.tell_name.new.out)) (sym c.in_default.is) ∙ c.in_ok-next.ensures)) ∙ c.loop.invariant
+pub returns-in_err-rest : goal.returns-in_err-rest
+returns-in_err-rest c =
+    left_stop c.from_residual.result c.in_err-rest.field-0.0 (vec_items c.tell_name.new.out) (told (name_behind c.args.before.now) (vec_items c.loop.out) (name_at c.loop.rest.now)) _ c.from_residual.ensures
+    (λ e. sym (told_stop name_at (name_behind c.args.before.now) c.args.count c.loop.counter (vec_items c.loop.out) c.loop.rest.now c.loop-test.true e) ∙ c.loop.invariant)
+    c.in_err-rest.ensures
 
 pub loop-preserved : goal.loop-preserved
 loop-preserved c =
-    sym
-    (told_step name_at (name_behind c.args.before.now) c.args.count c.loop.counter (vec_items c.loop.out) c.loop.rest.now c.loop-test.true (vec_items c.tell_name.new.out) c.in-Some.next.now
-    (ap (with_rest (vec_items c.tell_name.new.out)) (sym c.in-Some.is) ∙ c.in_ok-next.ensures))
-    ∙ c.loop.invariant
+    sym (told_step name_at (name_behind c.args.before.now) c.args.count c.loop.counter (vec_items c.loop.out) c.loop.rest.now c.loop-test.true (vec_items c.tell_name.new.out) c.in_ok-rest.rest.now c.in_ok-rest.ensures) ∙ c.loop.invariant
 
 pub returns : goal.returns
 returns c = sym (told_end name_at (name_behind c.args.before.now) c.args.count c.loop.counter (vec_items c.loop.out) c.loop.rest.now (omega arith)) ∙ c.loop.invariant

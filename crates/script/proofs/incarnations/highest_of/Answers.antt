@@ -1,15 +1,9 @@
--- Each turn takes one of them.
-use Rattle.std.proofs.Common.{ℕ, ◌+◌, drop, sym, ap, ◌∙◌}
-use Rattle.std.proofs.lemmas.List.{at_drop_more, at_drop_all}
-use Rattle.script.specs.Incarnations.{highest}
+-- The highest of them, or 0 where there are none.
+use Rattle.std.proofs.lemmas.Iterator.{YieldsList-from_slice}
+use Rattle.std.proofs.lemmas.Iterator.Consumers.{max_from_yields_List}
+use Rattle.script.proofs.Fresh.{highest_from_max}
 use Rattle.script.proofs.incarnations.highest_of.Goals as goal
 
 pub returns : goal.returns
-unfolding highest
-returns c = sym (at_drop_all (highest c.loop-one.most) c.args.drawn.now c.loop-one.one-index c.loop-one-test.false) ∙ c.loop-one.invariant
-
-pub loop-one-preserved : goal.loop-one-preserved
-unfolding highest
-loop-one-preserved c =
-    ap (λ (m : ℕ). highest m (drop (c.loop-one.one-index + 1) c.args.drawn.now)) c.max-most.ensures
-    ∙ (sym (at_drop_more (highest c.loop-one.most) c.args.drawn.now c.loop-one.one-index 0 c.loop-one-test.true) ∙ c.loop-one.invariant)
+returns c =
+    highest_from_max c.args.drawn.now c.max.result c.copied.result c.unwrap_or.result (max_from_yields_List c.iter.result c.max.result c.max.ensures.ran (YieldsList-from_slice c.args.drawn.now (cc))) c.copied.ensures c.unwrap_or.ensures
