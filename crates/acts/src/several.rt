@@ -1,9 +1,8 @@
 // Several acts, written into two lent buffers in turn, while the tree that stands is left as it is.
-ghost use Rattle.std.specs.Prelude.{◌≡◌, ◌+◌, ◌<◌, ◌≤◌, false, ◌||◌, [], length, IfOk, Some, nat_lt};
+ghost use Rattle.std.specs.Prelude.{◌≡◌, ◌+◌, ◌<◌, ◌≤◌, false, ◌||◌, length, IfOk, nat_lt};
 ghost use Rattle.std.specs.List.{AllByRecursion};
 ghost use Rattle.model.specs.Tree.{acts, does, values_in, Do};
-ghost use Rattle.calls.specs.Format.{act_at};
-ghost use Rattle.calls.specs.Reading.{act_of, acts_in, past};
+ghost use Rattle.calls.specs.Reading.{act_of, acts_in};
 ghost use Rattle.cells.specs.Entries.{tree_state};
 ghost use Rattle.cells.specs.Drafts.{bytes_in, places_in, Drafts};
 ghost use Rattle.cells.specs.Fits.{Fits, Suits};
@@ -12,7 +11,7 @@ ghost use Rattle.tree.specs.Steps.{counting, weighed, Ready};
 ghost use Rattle.acts.specs.Several.{brought, made_all, standing, StandsIn, step_at, Plain, Ran, ran_of};
 
 use calls::reading::read_act;
-use calls::types::{Act, ActKind};
+use calls::types::{Act, ActKind, Acts};
 use cells::draft::Size;
 use cells::held::{Current, Tree};
 use changing::acts::copy_all;
@@ -112,18 +111,17 @@ fn value_len(act: Act) -> usize
 }
 
 // Are the acts more than 64, or their values more than 262,144 bytes.
-fn too_large(count: u8, acts: &[u8]) -> bool
-    requires { past act_at count acts.now ≡ Some [] }
-    ensures { result ≡ (nat_lt 64 (length (acts_in count acts.now)) || nat_lt 262144 (values_in (acts_in count acts.now))) }
+fn too_large(acts: Acts<'_>) -> bool
+    ensures { result ≡ (nat_lt 64 (length (acts_in acts.entry.count acts.entry.bytes.now)) || nat_lt 262144 (values_in (acts_in acts.entry.count acts.entry.bytes.now))) }
 {
-    if count > 64 {
+    if acts.count > 64 {
         return true;
     }
-    let mut rest = acts;
+    let mut rest = acts.bytes;
     let mut sum = 0;
-    for n in 0..count {
+    for n in 0..acts.count {
         let Some((act, behind)) = read_act(rest) else {
-            return false;
+            unreachable!();
         };
         sum += value_len(act);
         if sum > 262144 {
@@ -137,8 +135,7 @@ fn too_large(count: u8, acts: &[u8]) -> bool
 // Acts one after the other, the first that is refused ends them. The last writes the count of changes afterwards.
 fn run_acts(
     current: Current<'_>,
-    count: u8,
-    acts: &[u8],
+    acts: Acts<'_>,
     left: &mut [u8],
     lefts: &mut [u32],
     right: &mut [u8],
@@ -146,27 +143,23 @@ fn run_acts(
 ) -> Result<Stands, Refused>
     requires left { Suits current.room left.old lefts.old }
     requires right { Suits current.room right.old rights.old }
-    requires acts { past act_at count acts.now ≡ Some [] }
-    requires plain { AllByRecursion Plain (acts_in count acts.now) }
-    requires some { 0 < count }
-    requires few { count ≤ 64 }
-    ensures ran { Ran current.entry.room (acts_in count acts.now) result current.entry.tree.bytes.now current.entry.tree.places.now left.new lefts.new right.new rights.new }
+    requires plain { AllByRecursion Plain (acts_in acts.count acts.bytes.now) }
+    requires some { 0 < acts.count }
+    requires few { acts.count ≤ 64 }
+    ensures ran { Ran current.entry.room (acts_in acts.entry.count acts.entry.bytes.now) result current.entry.tree.bytes.now current.entry.tree.places.now left.new lefts.new right.new rights.new }
     ensures stands { IfOk result (λ s. StandsIn s current.entry.tree.bytes.now current.entry.tree.places.now left.new lefts.new right.new rights.new) }
 {
     let Current { tree, room } = current;
     let before = tree.changes();
     let after = Count(before.0 + 1);
-    let mut rest = acts;
+    let mut rest = acts.bytes;
     let mut stands = Stands::Last;
     let mut refused = None;
-    'acts: for n in 0..count {
+    'acts: for n in 0..acts.count {
         let Some((act, behind)) = read_act(rest) else {
-            return Err(Refused {
-                act: n,
-                refusal: Refusal::OutOfRange,
-            });
+            unreachable!();
         };
-        let changes = if n + 1 == count { after } else { before };
+        let changes = if n + 1 == acts.count { after } else { before };
         match do_next(
             tree, room, act, changes, stands, left, lefts, right, rights,
         ) {
@@ -187,8 +180,7 @@ fn run_acts(
 // A call of several acts: all are done, or none.
 pub fn do_acts(
     current: Current<'_>,
-    count: u8,
-    acts: &[u8],
+    acts: Acts<'_>,
     left: &mut [u8],
     lefts: &mut [u32],
     right: &mut [u8],
@@ -196,23 +188,22 @@ pub fn do_acts(
 ) -> Result<Stands, Refused>
     requires left { Suits current.room left.old lefts.old }
     requires right { Suits current.room right.old rights.old }
-    requires acts { past act_at count acts.now ≡ Some [] }
-    requires plain { AllByRecursion Plain (acts_in count acts.now) }
-    ensures answer { ran_of (made_all (acts_in count acts.now)) result current.entry.tree.bytes.now current.entry.tree.places.now left.new lefts.new right.new rights.new ≡ does current.entry.room (Do (acts_in count acts.now)) (tree_state current.entry.tree) }
+    requires plain { AllByRecursion Plain (acts_in acts.count acts.bytes.now) }
+    ensures answer { ran_of (made_all (acts_in acts.entry.count acts.entry.bytes.now)) result current.entry.tree.bytes.now current.entry.tree.places.now left.new lefts.new right.new rights.new ≡ does current.entry.room (Do (acts_in acts.entry.count acts.entry.bytes.now)) (tree_state current.entry.tree) }
     ensures stands { IfOk result (λ s. StandsIn s current.entry.tree.bytes.now current.entry.tree.places.now left.new lefts.new right.new rights.new) }
     ensures fits { IfOk result (λ s. Fits current.entry.room (standing s current.entry.tree.bytes.now current.entry.tree.places.now left.new lefts.new right.new rights.new)) }
 {
-    if too_large(count, acts) {
+    if too_large(acts) {
         return Err(Refused {
             act: 0,
             refusal: Refusal::OutOfRange,
         });
     }
-    if count == 0 {
+    if acts.count == 0 {
         let tree = current.tree;
         let changes = Count(tree.changes().0 + 1);
         let size = copy_all(tree, changes, tree.top(), left, lefts);
         return Ok(Stands::Left(size));
     }
-    run_acts(current, count, acts, left, lefts, right, rights)
+    run_acts(current, acts, left, lefts, right, rights)
 }

@@ -6,13 +6,13 @@ use Rattle.tree.specs.Answers.{reason}
 use Rattle.acts.specs.declared.several.Refused.{Refused}
 use Rattle.acts.proofs.Runs.{acting_first, acting_stop, acting_ready, acting_plain, plain_kind, acting_refused, acting_more, acting_end, count_last, count_before, stands_same, stands_as}
 use Rattle.acts.proofs.several.run_acts.Goals as goal
-use Rattle.acts.proofs.several.run_acts.Goals.{else-acts-test, then-acts-test+in-Some+in-Err, then-n-count, else-n-count}
+use Rattle.acts.proofs.several.run_acts.Goals.{else-acts-test, then-acts-test+in-Some+in-Err, then-n-acts, else-n-acts}
 
 pub acts-init : goal.acts-init
-acts-init c = (refl, acting_first _ _ _ _ c.requires.acts c.requires.plain c.args.current.fits c.requires.some, c.args.current.tree.holds)
+acts-init c = (refl, acting_first _ _ _ _ c.args.acts.whole c.requires.plain c.args.current.fits c.requires.some, c.args.current.tree.holds)
 
-pub returns-in_default : goal.returns-in_default
-returns-in_default c = absurd (acting_stop _ _ _ _ _ _ _ c.acts.invariant.1 c.acts-test.true (sym c.in_default.ensures))
+pub unreachable-requires : goal.unreachable-requires
+unreachable-requires c = acting_stop _ _ _ _ _ _ _ c.acts.invariant.1 c.acts-test.true (sym c.in_default.ensures)
 
 pub do_next-requires : goal.do_next-requires
 do_next-requires c =
@@ -28,13 +28,13 @@ do_next-requires c =
 pub acts-preserved : goal.acts-preserved
 acts-preserved c =
     let s = state_of c.args.current.tree.bytes.now c.args.current.tree.places.now in
-    let count : c.if-n-count.changes.0 ≡ _ =
-    elim c.if-n-count.branch [
-      | then-n-count w ↦ count_last c.acts.n c.args.count s.changes c.if-n-count.changes.0 w.if-n-count.true (ap (λ x. x.0) w.changes-is ∙ ap (λ (n : ℕ). n + 1) c.changes-before.ensures)
-      | else-n-count w ↦ count_before c.acts.n c.args.count s.changes c.if-n-count.changes.0 c.acts-test.true w.if-n-count.false (ap (λ x. x.0) w.changes-is ∙ c.changes-before.ensures)
+    let count : c.if-n-acts.changes.0 ≡ _ =
+    elim c.if-n-acts.branch [
+      | then-n-acts w ↦ count_last c.acts.n c.args.acts.count s.changes c.if-n-acts.changes.0 w.if-n-acts.true (ap (λ x. x.0) w.changes-is ∙ ap (λ (n : ℕ). n + 1) c.changes-before.ensures)
+      | else-n-acts w ↦ count_before c.acts.n c.args.acts.count s.changes c.if-n-acts.changes.0 c.acts-test.true w.if-n-acts.false (ap (λ x. x.0) w.changes-is ∙ c.changes-before.ensures)
     ] in (
       c.acts.invariant.0,
-      acting_more _ _ s _ _ _ _ c.acts.invariant.1 c.acts-test.true _ _ (sym c.in-Some.ensures) c.if-n-count.changes.0 _ c.in-Ok.ensures.step count,
+      acting_more _ _ s _ _ _ _ c.acts.invariant.1 c.acts-test.true _ _ (sym c.in-Some.ensures) c.if-n-acts.changes.0 _ c.in-Ok.ensures.step count,
       c.in-Ok.ensures.stands,
     )
 

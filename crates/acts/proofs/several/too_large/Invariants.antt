@@ -4,4 +4,4 @@ use Rattle.acts.proofs.Readings.{Summed}
 use Rattle.acts.proofs.several.too_large.Given as goal
 
 abbrev pub invariant-loop-n : goal.invariant-loop-n
-invariant-loop-n l = Summed (acts_in l.count l.acts) (l.count - l.n) l.rest l.sum
+invariant-loop-n l = Summed (acts_in l.acts.count l.acts.bytes.now) (l.acts.count - l.n) l.rest l.sum

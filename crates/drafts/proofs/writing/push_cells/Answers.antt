@@ -29,10 +29,3 @@ loop-i-preserved c =
     (ap (λ x. between c.args.from c.loop-i.i es ++ x ∷ []) (sym (c.cell.ensures.entry e)) ∙ sym (between_more es c.args.from c.loop-i.i e (omega arith) (omega arith)))
     (omega arith)
     (grown_then c.loop-i.invariant c.push_cell-next.ensures)
-
-pub returns : goal.returns
-returns c =
-    let es = entries_of c.args.tree.bytes.now c.args.tree.places.now in
-    let ps = c.args.tree.places.now in
-    let e : c.loop-i.i ≡ c.args.to = omega (arith, c.loop-i.auto.i-end c.requires.order) in
-    grown_as _ _ _ _ (ap (λ j. between c.args.from j es) e) (ap (λ j. get_or ps j 0 - get_or ps c.args.from 0) e) c.loop-i.invariant

@@ -5,11 +5,6 @@ use Rattle.cells.proofs.Pushes.{ends_at, spans, length_span}
 use Rattle.drafts.proofs.Grows.{grown_then, grown_as, around}
 use Rattle.drafts.proofs.writing.replace.Goals as goal
 
-pub push_cells-before-requires : goal.push_cells-before-requires
-push_cells-before-requires c =
-    let at = spans _ _ _ c.args.tree.holds c.requires.within in
-    record { order = omega arith; within = omega arith; drafts = c.requires.drafts; room = omega arith; small = c.requires.small; more = omega arith }
-
 pub push_entry-with-requires : goal.push_entry-with-requires
 push_entry-with-requires c =
     let at = spans _ _ _ c.args.tree.holds c.requires.within in

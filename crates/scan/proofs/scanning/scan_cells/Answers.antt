@@ -15,6 +15,3 @@ returns-then-count-places c = λ qs h. omega (arith, goes_on _ _ _ _ c.loop-at.i
 
 pub loop-at-preserved : goal.loop-at-preserved
 loop-at-preserved c = walk_more _ _ _ _ c.loop-at.invariant c.loop-at-test.true _ c.in_ok-at.ensures.1 c.in_ok-at.ensures.2 (omega arith)
-
-pub returns : goal.returns
-returns c = walk_all _ _ _ _ c.loop-at.invariant c.loop-at-test.false

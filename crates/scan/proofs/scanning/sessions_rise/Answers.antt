@@ -5,9 +5,6 @@ use Rattle.cells.specs.Walks.{sessions_left}
 use Rattle.scan.proofs.Rises.{rises_not, rises_on, rises_all}
 use Rattle.scan.proofs.scanning.sessions_rise.Goals as goal
 
-pub loop-session-init : goal.loop-session-init
-loop-session-init c = ap (λ (xs : List ℕ). rising 0 xs c.last_session-last.result.0) (sym (ap sessions_left c.into_iter-session-iterator.ensures.into_iter_gives ∙ c.sessions-session-items.ensures))
-
 pub returns-then-session-low : goal.returns-then-session-low
 returns-then-session-low c =
     let last = c.last_session-last.result.0 in
