@@ -2,14 +2,14 @@
 #![tactic(auto)]
 
 ghost use Rattle.std.specs.Prelude.{◌≡◌, ℕ, ◌+◌, ◌<◌, ◌≤◌, List, [], ◌∷◌, ◌++◌, length};
-ghost use Rattle.voting.specs.declared.replica.Replica.{Replica};
+ghost use Rattle.voting.specs.declared.replicas.Replica.{Replica};
 ghost use Rattle.outbox.specs.declared.Deed.{Deed};
 ghost use Rattle.outbox.specs.Deeds.{said, eachOf, aliveBy, word_by, tellBy, tellAllBy, askBy, askAllBy, tellDoneBy, Below};
 
 use agreement::{Agreement, Joining, ProposalId, View};
 use std::marker::Model;
 use voting::quorum::does_count;
-use voting::replica::Replica;
+use voting::replicas::Replica;
 
 // A message, but for the proposal or the call that it carries.
 #[derive(Clone, Copy)]

@@ -9,7 +9,7 @@ ghost use Rattle.agreement.specs.Machine.{own_vote, own_view, quorum, voting};
 use agreement::{Agreement, Place, ProposalId, Role, View};
 use voting::order::is_id;
 use voting::quorum::is_quorum;
-use voting::replica::Replica;
+use voting::replicas::Replica;
 
 // A vote of a replica, by this incarnation of it.
 #[derive(Clone, Copy, PartialEq, Eq)]

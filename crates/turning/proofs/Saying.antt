@@ -1,8 +1,8 @@
 -- Deeds that are added to a turn are the machine's next deeds: those before them mean what they meant, since nothing else changed. And what a leader or a candidate says to all others is what the machine says.
 use Rattle.std.proofs.Common.{◌≡◌, ℕ, zero, suc, Bool, true, false, cond, ◌||◌, eqb, List, [], ◌∷◌, ◌++◌, map, get_or, is_some, Some, None, Option, sym, refl, ap, ◌∙◌}
 use Rattle.std.proofs.lemmas.Bool.{cond_both}
-use Rattle.runs.specs.Replicas.{Does, Says}
 use Rattle.std.proofs.lemmas.List.{map-append}
+use Rattle.runs.specs.Replicas.{Does, Says}
 use Rattle.agreement.specs.Machine as Machine
 use Rattle.agreement.specs.Machine.{Msg, Mind, accepted, then_do, still, says, to_each, alive_to, word_to, tell, tell_all, tell_done, counts, ask_to, ask_all}
 use Rattle.service.specs.Service.{lines}

@@ -5,7 +5,7 @@ ghost use Rattle.voting.specs.Values.{Able};
 ghost use Rattle.turning.specs.Turns.{MovesBy};
 
 use crate::Turn;
-use voting::replica::Replica;
+use voting::replicas::Replica;
 use voting::time;
 
 // It knows that what it holds is chosen.

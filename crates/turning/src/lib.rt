@@ -12,7 +12,7 @@ ghost use Rattle.turning.specs.Turns.{MovesBy, may_forward};
 use agreement::Agreement;
 use memory::lent::Kept;
 use outbox::{Deed, Outbox, Word};
-use voting::replica::Replica;
+use voting::replicas::Replica;
 use voting::time::is_member;
 
 // A replica: agreement, and what is where in its memory.

@@ -3,5 +3,5 @@
 
 pub mod order;
 pub mod quorum;
-pub mod replica;
+pub mod replicas;
 pub mod time;

@@ -2,9 +2,9 @@
 ghost use Rattle.std.specs.Prelude.{◌≡◌, ℕ, ◌*◌, ◌<◌, ◌≤◌, Bool, nat_lt};
 ghost use Rattle.runs.specs.Replicas.{how_many};
 ghost use Rattle.agreement.specs.Machine.{counts, quorum};
-ghost use Rattle.voting.specs.declared.replica.Replica.{Replica};
+ghost use Rattle.voting.specs.declared.replicas.Replica.{Replica};
 
-use crate::replica::Replica;
+use crate::replicas::Replica;
 use agreement::Place;
 
 // Did a replica vote by the incarnation that its place names.

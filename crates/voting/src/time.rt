@@ -5,7 +5,7 @@ ghost use Rattle.agreement.specs.Machine.{is_leader, is_candidate, is_member, ke
 ghost use Rattle.voting.specs.Values.{Able, heard_most_by, ticked_by, may_stand_by};
 
 use crate::quorum::more_than_half;
-use crate::replica::Replica;
+use crate::replicas::Replica;
 use agreement::{Agreement, Role};
 
 // kept: each of the two states one test of the machine; a test over any role would be the derived `==` under another name.

@@ -1,5 +1,5 @@
 use Rattle.std.proofs.Common.{◌≡◌, ℕ, ◌+◌, ◌≤◌, List, ◌++◌, length}
-use Rattle.voting.specs.declared.replica.Replica.{Replica}
+use Rattle.voting.specs.declared.replicas.Replica.{Replica}
 use Rattle.outbox.specs.declared.Deed.{Deed}
 use Rattle.outbox.specs.Deeds.{said, eachOf}
 use Rattle.outbox.proofs.Outbox.say_each.Given as goal

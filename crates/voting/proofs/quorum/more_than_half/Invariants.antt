@@ -1,6 +1,6 @@
 use Rattle.std.proofs.Common.{◌≡◌, ℕ, ◌≤◌, Bool}
 use Rattle.runs.specs.Replicas.{how_many}
-use Rattle.voting.specs.declared.replica.Replica.{Replica}
+use Rattle.voting.specs.declared.replicas.Replica.{Replica}
 use Rattle.voting.proofs.quorum.more_than_half.Given as goal
 
 abbrev pub invariant-loop-index : goal.invariant-loop-index

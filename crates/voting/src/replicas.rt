@@ -1,4 +1,4 @@
-// The number of a replica.
+// Replicas by their number.
 ghost use Rattle.std.specs.Prelude.{◌<◌};
 
 // The number of a replica: there are at most seven.
