@@ -9,7 +9,7 @@ use Rattle.text.proofs.words.cut_word.Goals as goal
 pub returns-in-Some : goal.returns-in-Some
 returns-in-Some c =
     let cut =
-        word_cut c.args.line.now c.in-Some.i (position_from_yields_List space _ _ _ c.in-Some.ensures.ran (YieldsList-from_slice _ c.iter.ensures.rest) (λ x b q k. search (rules, tests))) in
+    word_cut c.args.line.now c.in-Some.i (position_from_yields_List space _ _ _ c.in-Some.ensures.ran (YieldsList-from_slice _ c.iter.ensures.rest) (λ x b q k. search (rules, tests))) in
     record { word = cut.0; rest = take_rest c.args.line.now (c.in-Some.i + 1) ∙ cut.1 }
 
 pub returns-in-None : goal.returns-in-None
