@@ -42,6 +42,14 @@ fn write_call(
     }
 }
 
+// A room of no bytes, which stands in while another is taken out.
+fn no_room<'b, 'p>() -> TreeRoom<'b, 'p> {
+    TreeRoom {
+        bytes: &mut [],
+        places: &mut [],
+    }
+}
+
 // Does the write that lies in a slot, into the room beside the tree that stands.
 fn write_beside(kept: Kept, memory: &mut Memory, slot: usize) -> Result<Size, Refusal>
     requires sound { Sound kept memory.old }
@@ -54,13 +62,7 @@ fn write_beside(kept: Kept, memory: &mut Memory, slot: usize) -> Result<Size, Re
     // kept: one call may be lent one field of what is behind a &mut: so the room is taken out, and put back
     match kept.stands {
         Side::Left => {
-            let TreeRoom { bytes, places } = std::mem::replace(
-                &mut memory.right,
-                TreeRoom {
-                    bytes: &mut [],
-                    places: &mut [],
-                },
-            );
+            let TreeRoom { bytes, places } = std::mem::replace(&mut memory.right, no_room());
             let current = Current {
                 tree: tree(kept, memory),
                 room: kept.room,
@@ -71,13 +73,7 @@ fn write_beside(kept: Kept, memory: &mut Memory, slot: usize) -> Result<Size, Re
             written
         }
         Side::Right => {
-            let TreeRoom { bytes, places } = std::mem::replace(
-                &mut memory.left,
-                TreeRoom {
-                    bytes: &mut [],
-                    places: &mut [],
-                },
-            );
+            let TreeRoom { bytes, places } = std::mem::replace(&mut memory.left, no_room());
             let current = Current {
                 tree: tree(kept, memory),
                 room: kept.room,

@@ -17,8 +17,7 @@ loop-place-preserved c =
     let first : iter_rest (zip_first c.into_iter-place-iterator.result) ≡ s.places = search rules in
     let second : iter_rest (zip_second c.into_iter-place-iterator.result) ≡ s.outcomes = search rules in
     let turn = zip_turn s.places s.outcomes l.yielded c.into_iter-place-iterator.result l.place-iterator c.next.new.self c.next.result first second l.yielded_by (c.in-Some.place, c.in-Some.outcome) c.in-Some.is c.next.ensures.steps in
-    let more : length (l.yielded ++ (c.in-Some.place, c.in-Some.outcome) ∷ []) ≡ length l.yielded + 1 = length_push l.yielded (c.in-Some.place, c.in-Some.outcome) in
-    (
+    let more : length (l.yielded ++ (c.in-Some.place, c.in-Some.outcome) ∷ []) ≡ length l.yielded + 1 = length_push l.yielded (c.in-Some.place, c.in-Some.outcome) in (
       the_same _ _ (seats_more (length l.yielded) _ s.places s.outcomes c.in-Some.place.now c.in-Some.outcome.now more turn.0 turn.1 turn.2 turn.3) (and_then l.invariant.0 c.append_seat-end.ensures.added),
       omega (arith, l.invariant.1, c.append_seat-end.ensures.end, more),
     )
