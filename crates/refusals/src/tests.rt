@@ -2,6 +2,7 @@
 use phrases::read_call;
 use std::alloc::Global;
 use std::fmt::Display;
+use std::process::Abort;
 use std::test::Fail;
 use text::command::read_command;
 use text::decimal::read_decimal;
@@ -27,7 +28,10 @@ const DECIMAL: [(&str, &str); 5] = [
 
 const FRAME: [(&str, &str); 3] = [
     ("\0\0\0\x09abcdefghi", "read"),
-    ("\0\0\0\x07abcdefg", "fewer than 12 bytes: a length and a number are wanted"),
+    (
+        "\0\0\0\x07abcdefg",
+        "fewer than 12 bytes: a length and a number are wanted",
+    ),
     ("\0\0\0\x09abcdefgh", "the length does not match"),
 ];
 
@@ -36,7 +40,10 @@ const LINE: [(&str, &str); 7] = [
     ("ask 00", "read"),
     ("from 0 00", "read"),
     ("beat", "read"),
-    ("beat ", "no such line: ask HEX, from J HEX or beat is wanted"),
+    (
+        "beat ",
+        "no such line: ask HEX, from J HEX or beat is wanted",
+    ),
     ("from x 00", "no decimal digit at 0 of the number"),
     ("from 3 00", "there is no house 3"),
     ("from 1 00", "a letter comes from another house"),
@@ -78,8 +85,8 @@ fn said_of_call(heap: Global, text: &[u8]) -> Result<String, Fail> {
 }
 
 // Each text of the table is said to be what is wanted of it.
-fn each_says<F: Fn(&[u8]) -> Result<String, Fail>>(
-    rt: &HostRuntime,
+fn each_says<R: Abort, F: Fn(&[u8]) -> Result<String, Fail>>(
+    rt: &R,
     table: &[(&str, &str)],
     said: F,
 ) -> Result<(), Fail>
