@@ -21,10 +21,10 @@ struct Desk {
     reply: Vec<u8>,
 }
 
+// kept: both buffers are as long from the start as the room wants, so that no call takes memory; a length says how much of one is in use
 #[derive(Drop)]
 pub struct Alone {
     room: u64,
-    // kept: the memory is lent once, as long as the room wants it, and no call takes more; a length says how much of it is in use
     // how much of the first buffer is the tree
     used: usize,
     // how long the last answer is

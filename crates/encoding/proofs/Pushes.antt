@@ -1,9 +1,7 @@
 -- Names, and what is written one behind the other, as the code writes them.
-use Rattle.std.proofs.Common.{◌≡◌, ℕ, Bool, true, false, List, [], ◌∷◌, ◌++◌, map, Ok, Err, Result, refl, ap}
-use Rattle.std.specs.Bool.{if◌then◌else◌}
+use Rattle.std.proofs.Common.{◌≡◌, ℕ, Bool, true, false, List, [], ◌∷◌, ◌++◌, map, refl, ap}
 use Rattle.std.specs.Int.{from_bool}
 use Rattle.std.specs.List.{flat_map}
-use Rattle.std.specs.Result.{OnOk, is_ok}
 use Rattle.model.specs.Tree.{Name}
 use Rattle.lent_bytes.specs.Paths.{name_bytes, path_bytes}
 use Rattle.calls.specs.Format.{flag_written, many_written}
@@ -17,11 +15,6 @@ pub all_written : {A B : Type 0} (of : A → B) (f : B → List ℕ) (xs : List 
 unfolding many_written
 all_written of f [] = refl
 all_written of f (x ∷ xs) = ap (λ (bs : List ℕ). f (of x) ++ bs) (all_written of f xs)
-
--- what `extend_from_slice` says, where its answer is handed on
-pub on_ok_if : {T E : Type 0} (r : Result T E) (x a b : List ℕ) → x ≡ (if is_ok r then a else b) → OnOk r (x ≡ a)
-on_ok_if (Ok t) x a b e = e
-on_ok_if (Err t) x a b e = tt
 
 pub flag_is : (b : Bool) → from_bool b ≡ flag_written b
 flag_is true = refl

@@ -23,6 +23,7 @@ pub(crate) trait Encode {
     fn fits(&self) -> bool
         ensures { result ≡ fitting self.now };
 
+    // kept: a type for what was tested would be no plainer, since the test is made once, of the whole call
     fn encode(&self, out: &mut Vec<u8>) -> Result<(), AllocError>
         requires { fitting self.now ≡ true }
         ensures { OnOk result (out.new.items ≡ out.old.items ++ written self.now) };
@@ -35,6 +36,7 @@ fn all_fit<T: Encode>(items: &[T]) -> bool
 }
 
 // One behind the other.
+// kept: as at the trait
 fn encode_all<T: Encode>(out: &mut Vec<u8>, items: &[T]) -> Result<(), AllocError>
     requires { list_all T.fitting items.now ≡ true }
     ensures { OnOk result (out.new.items ≡ out.old.items ++ flat_map T.written items.now) }
@@ -81,6 +83,7 @@ fn value_fits(value: &[u8]) -> bool
     value.len() <= 0xffff_ffff
 }
 
+#[tactic(auto, unfolding(lent_bytes::specs::Numbers::be4))]
 fn push_value(out: &mut Vec<u8>, value: &[u8]) -> Result<(), AllocError>
     requires { value_fits value.now ≡ true }
     ensures { OnOk result (out.new.items ≡ out.old.items ++ value_written value.now) }
@@ -90,19 +93,20 @@ fn push_value(out: &mut Vec<u8>, value: &[u8]) -> Result<(), AllocError>
     out.extend_from_slice(value)
 }
 
+#[tactic(auto, unfolding(lent_bytes::specs::Numbers::be8))]
 fn push_expected(out: &mut Vec<u8>, expected: Expected) -> Result<(), AllocError>
     ensures { OnOk result (out.new.items ≡ out.old.items ++ expect_written (expect_of expected)) }
 {
     match expected {
-        Expected::Any => out.push(0)?,
+        Expected::Any => Ok(out.push(0)?),
         Expected::Exactly(version) => {
             out.push(1)?;
-            out.extend_from_slice(&version.0.to_be_bytes())?;
+            out.extend_from_slice(&version.0.to_be_bytes())
         }
     }
-    Ok(())
 }
 
+#[tactic(auto, unfolding(lent_bytes::specs::Numbers::be8), using(crate::proofs::Pushes::flag_is))]
 // Is it numbered, and the session that it goes with.
 fn push_owner(out: &mut Vec<u8>, numbered: bool, session: Session) -> Result<(), AllocError>
     ensures { OnOk result (out.new.items ≡ out.old.items ++ (flag_written numbered ∷ be8 session.0)) }
@@ -125,6 +129,7 @@ impl Encode for Act {
         }
     }
 
+    #[tactic(auto, unfolding(calls::specs::Format::act_written))]
     fn encode(&self, out: &mut Vec<u8>) -> Result<(), AllocError> {
         match self {
             Act::Make {
@@ -175,26 +180,26 @@ impl Encode for Call {
         }
     }
 
+    #[tactic(auto, unfolding(calls::specs::Format::encode_call, lent_bytes::specs::Numbers::be8))]
     fn encode(&self, out: &mut Vec<u8>) -> Result<(), AllocError> {
         match self {
             Call::Do(acts) => {
                 out.extend_from_slice(&[1, acts.len() as u8])?;
-                encode_all(out, acts)?;
+                encode_all(out, acts)
             }
             Call::Look(path) => {
                 out.push(2)?;
-                path.encode(out)?;
+                path.encode(out)
             }
             Call::Kids(path) => {
                 out.push(3)?;
-                path.encode(out)?;
+                path.encode(out)
             }
-            Call::Open => out.push(4)?,
+            Call::Open => Ok(out.push(4)?),
             Call::End(session) => {
                 out.push(5)?;
-                out.extend_from_slice(&session.0.to_be_bytes())?;
+                out.extend_from_slice(&session.0.to_be_bytes())
             }
         }
-        Ok(())
     }
 }

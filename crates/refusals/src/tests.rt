@@ -2,6 +2,7 @@
 use phrases::read_call;
 use std::alloc::Global;
 use std::fmt::Display;
+use std::process::Abort;
 use std::test::Fail;
 use text::command::read_command;
 use text::decimal::read_decimal;
@@ -9,15 +10,63 @@ use text::frame::read_frame;
 use text::hex::read_hex;
 use words::types::Fault;
 
-#[derive(Clone, Copy)]
-enum Reader {
-    Hex,
-    Decimal,
-    Frame,
-    // a line of replica 1 of 3
-    Line,
-    Call,
-}
+const HEX: [(&str, &str); 5] = [
+    ("", "read"),
+    ("0aFf", "read"),
+    ("0af", "the hexadecimal digit at 2 stands alone"),
+    ("0ag0", "no hexadecimal digit at 2"),
+    ("0a0 ", "no hexadecimal digit at 3"),
+];
+
+const DECIMAL: [(&str, &str); 5] = [
+    ("18446744073709551615", "read"),
+    ("007", "read"),
+    ("", "no number"),
+    ("1-", "no decimal digit at 1 of the number"),
+    ("18446744073709551616", "a number of more than 64 bits"),
+];
+
+const FRAME: [(&str, &str); 3] = [
+    ("\0\0\0\x09abcdefghi", "read"),
+    (
+        "\0\0\0\x07abcdefg",
+        "fewer than 12 bytes: a length and a number are wanted",
+    ),
+    ("\0\0\0\x09abcdefgh", "the length does not match"),
+];
+
+// Lines of replica 1 of 3.
+const LINE: [(&str, &str); 7] = [
+    ("ask 00", "read"),
+    ("from 0 00", "read"),
+    ("beat", "read"),
+    (
+        "beat ",
+        "no such line: ask HEX, from J HEX or beat is wanted",
+    ),
+    ("from x 00", "no decimal digit at 0 of the number"),
+    ("from 3 00", "there is no house 3"),
+    ("from 1 00", "a letter comes from another house"),
+];
+
+// Of a call, only which part is wrong.
+const CALL: [(&str, &str); 15] = [
+    ("make /a \"\\x00\" numbered session 7", "read"),
+    ("do { check /a version 1; drop / }", "read"),
+    ("do { }", "read"),
+    ("", "act"),
+    ("lock /a", "act"),
+    ("look a", "path"),
+    ("look /a/", "name"),
+    ("look //", "name"),
+    ("look /\\q", "escape"),
+    ("put /a 1", "value"),
+    ("put /a \"1", "value"),
+    ("put /a \"\\xg0\"", "escape"),
+    ("drop /a version", "number"),
+    ("end -1", "number"),
+    ("do { drop /a drop /b }", "braces"),
+];
 
 // What is said of what was read: that it was, or what is wrong with it.
 fn said_of<T: Drop, E: Display + Drop>(heap: Global, read: Result<T, E>) -> Result<String, Fail> {
@@ -35,87 +84,27 @@ fn said_of_call(heap: Global, text: &[u8]) -> Result<String, Fail> {
     }
 }
 
-fn said(heap: Global, reader: Reader, text: &[u8]) -> Result<String, Fail> {
-    match reader {
-        Reader::Hex => said_of(heap, read_hex(heap, text)),
-        Reader::Decimal => said_of(heap, read_decimal(text)),
-        Reader::Frame => said_of(heap, read_frame(text)),
-        Reader::Line => said_of(heap, read_command(text, 1, 3)),
-        Reader::Call => said_of_call(heap, text),
+// Each text of the table is said to be what is wanted of it.
+fn each_says<R: Abort, F: Fn(&[u8]) -> Result<String, Fail>>(
+    rt: &R,
+    table: &[(&str, &str)],
+    said: F,
+) -> Result<(), Fail>
+    requires { F.IsAlwaysCallable said }
+{
+    for (text, wanted) in table {
+        let came = said(text.as_bytes())?;
+        assert_eq!(rt; came.as_str(), *wanted, "{}", text);
     }
+    Ok(())
 }
-
-const TABLE: [(Reader, &str, &str); 35] = [
-    (Reader::Hex, "", "read"),
-    (Reader::Hex, "0aFf", "read"),
-    (
-        Reader::Hex,
-        "0af",
-        "the hexadecimal digit at 2 stands alone",
-    ),
-    (Reader::Hex, "0ag0", "no hexadecimal digit at 2"),
-    (Reader::Hex, "0a0 ", "no hexadecimal digit at 3"),
-    (Reader::Decimal, "18446744073709551615", "read"),
-    (Reader::Decimal, "007", "read"),
-    (Reader::Decimal, "", "no number"),
-    (Reader::Decimal, "1-", "no decimal digit at 1 of the number"),
-    (
-        Reader::Decimal,
-        "18446744073709551616",
-        "a number of more than 64 bits",
-    ),
-    (Reader::Frame, "\0\0\0\x09abcdefghi", "read"),
-    (
-        Reader::Frame,
-        "\0\0\0\x07abcdefg",
-        "fewer than 12 bytes: a length and a number are wanted",
-    ),
-    (
-        Reader::Frame,
-        "\0\0\0\x09abcdefgh",
-        "the length does not match",
-    ),
-    (Reader::Line, "ask 00", "read"),
-    (Reader::Line, "from 0 00", "read"),
-    (Reader::Line, "beat", "read"),
-    (
-        Reader::Line,
-        "beat ",
-        "no such line: ask HEX, from J HEX or beat is wanted",
-    ),
-    (
-        Reader::Line,
-        "from x 00",
-        "no decimal digit at 0 of the number",
-    ),
-    (Reader::Line, "from 3 00", "there is no house 3"),
-    (
-        Reader::Line,
-        "from 1 00",
-        "a letter comes from another house",
-    ),
-    (Reader::Call, "make /a \"\\x00\" numbered session 7", "read"),
-    (Reader::Call, "do { check /a version 1; drop / }", "read"),
-    (Reader::Call, "do { }", "read"),
-    (Reader::Call, "", "act"),
-    (Reader::Call, "lock /a", "act"),
-    (Reader::Call, "look a", "path"),
-    (Reader::Call, "look /a/", "name"),
-    (Reader::Call, "look //", "name"),
-    (Reader::Call, "look /\\q", "escape"),
-    (Reader::Call, "put /a 1", "value"),
-    (Reader::Call, "put /a \"1", "value"),
-    (Reader::Call, "put /a \"\\xg0\"", "escape"),
-    (Reader::Call, "drop /a version", "number"),
-    (Reader::Call, "end -1", "number"),
-    (Reader::Call, "do { drop /a drop /b }", "braces"),
-];
 
 #[test]
 fn refusals(rt: HostRuntime) -> Result<(), Fail> {
-    for (reader, text, wanted) in TABLE {
-        let came = said(rt.alloc(), reader, text.as_bytes())?;
-        assert_eq!(rt; came.as_str(), wanted, "{}", text);
-    }
-    Ok(())
+    let heap = rt.alloc();
+    each_says(&rt, &HEX, |text| said_of(heap, read_hex(heap, text)))?;
+    each_says(&rt, &DECIMAL, |text| said_of(heap, read_decimal(text)))?;
+    each_says(&rt, &FRAME, |text| said_of(heap, read_frame(text)))?;
+    each_says(&rt, &LINE, |text| said_of(heap, read_command(text, 1, 3)))?;
+    each_says(&rt, &CALL, |text| said_of_call(heap, text))
 }

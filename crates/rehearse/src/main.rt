@@ -18,7 +18,11 @@ fn play_line(rt: &HostRuntime, scene: &mut Scene, line: &[u8]) -> anyhow::Result
     }
 }
 
-fn play_lines<R: BufRead + Drop>(rt: &HostRuntime, scene: &mut Scene, script: R) -> anyhow::Result<()> {
+fn play_lines<R: BufRead + Drop>(
+    rt: &HostRuntime,
+    scene: &mut Scene,
+    script: R,
+) -> anyhow::Result<()> {
     for line in script.split(rt.alloc(), b'\n') {
         play_line(rt, scene, &line?)?;
     }
@@ -32,7 +36,11 @@ fn play_script(rt: &HostRuntime, scene: &mut Scene) -> anyhow::Result<()> {
     let _program = words.next();
     match words.next() {
         None => play_lines(rt, scene, BufReader::new(heap, rt.stdin())?),
-        Some(name) => play_lines(rt, scene, BufReader::new(heap, fs::open(rt, name.as_str())?)?),
+        Some(name) => play_lines(
+            rt,
+            scene,
+            BufReader::new(heap, fs::open(rt, name.as_str())?)?,
+        ),
     }
 }
 

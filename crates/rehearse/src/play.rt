@@ -73,7 +73,11 @@ fn play_beat(houses: Houses, which: Option<u8>) {
 }
 
 // The letters of a link, which are under way no more.
-fn take_letters(heap: Global, scene: &mut Scene, link: Option<Link>) -> Result<Vec<Letter>, AllocError>
+fn take_letters(
+    heap: Global,
+    scene: &mut Scene,
+    link: Option<Link>,
+) -> Result<Vec<Letter>, AllocError>
     ensures { OnOk result (scene.new.drawn.items ≡ scene.old.drawn.items) }
 {
     let letters = std::mem::replace(&mut scene.letters, Vec::new(heap));
@@ -148,6 +152,7 @@ fn play_at(
 }
 
 // Once it is said how many houses there are: the houses afterwards.
+// kept: a command is an enum of what is to be done, and each of its cases is another thing to do
 fn play_among(
     rt: &HostRuntime,
     scene: &mut Scene,

@@ -11,6 +11,7 @@ pub(crate) enum Untold {
     Memory,
 }
 
+// kept: a derive would not state which error it makes
 impl From<AllocError> for Untold {
     ghost from_gives = { λ _ r. r ≡ Memory };
 

@@ -13,6 +13,7 @@ pub enum Unfit {
     WasThere,
 }
 
+// kept: a derive would not state the text that the clause states
 impl fmt::Display for Unfit {
     ghost use Rattle.std.specs.Prelude.{Some};
     ghost use Rattle.script.specs.Said.{unfit_said};
