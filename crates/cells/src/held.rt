@@ -59,9 +59,7 @@ impl<'a> Tree<'a> {
     pub fn is_open(self, session: Session) -> bool
         ensures { result ≡ some (nat_eq session.0) (tree_state self.entry).sessions }
     {
-        self.prelude()
-            .sessions()
-            .any(|open| session.0 == open.0)
+        self.prelude().sessions().any(|open| session.0 == open.0)
     }
 
     // How many entries there are.

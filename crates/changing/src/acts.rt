@@ -23,7 +23,13 @@ use tree::seeking::find_expected;
 use tree::weighing::has_room;
 
 // The same tree, with these counts.
-pub fn copy_all(tree: Tree<'_>, changes: Count, top: Count, out: &mut [u8], places: &mut [u32]) -> Size
+pub fn copy_all(
+    tree: Tree<'_>,
+    changes: Count,
+    top: Count,
+    out: &mut [u8],
+    places: &mut [u32],
+) -> Size
     requires bytes { length tree.bytes.now ≤ length out.old }
     requires small { length out.old < 4294967296 }
     requires words { length tree.places.now ≤ length places.old }

@@ -121,7 +121,13 @@ pub fn push_cells(
 }
 
 // The entries of a tree that are not at a path.
-pub fn push_others(tree: Tree, path: Path<'_>, out: &mut [u8], places: &mut [u32], size: Size) -> Size
+pub fn push_others(
+    tree: Tree,
+    path: Path<'_>,
+    out: &mut [u8],
+    places: &mut [u32],
+    size: Size,
+) -> Size
     requires drafts { Drafts out.old places.old size }
     requires room { size.used + length tree.bytes.now ≤ length out.old + slice_index tree.places.now 0 }
     requires small { length out.old < 4294967296 }

@@ -96,16 +96,7 @@ fn count_kid(tree: Tree<'_>, i: usize, changes: Count, out: &mut [u8], places: &
         ..old
     };
     let begun = start(tree, changes, tree.top(), out, places);
-    replace(
-        tree,
-        i,
-        head,
-        cell.path(),
-        cell.value(),
-        out,
-        places,
-        begun,
-    )
+    replace(tree, i, head, cell.path(), cell.value(), out, places, begun)
 }
 
 // The tree with one entry more, counted under the one above it.

@@ -60,7 +60,8 @@ returns-in_err-i-clause-above c =
     let some_names = top_some (take n path) c.last_name-n.ensures.spells (omega (arith, length-take-le n path (omega arith))) in
     let none_found : c.find.result ≡ None = grind arith in
     let refused : c.from_residual.result ≡ Err NotThere = grind arith in
-    rw refused
-    (orphan_missing (path_of path) (state_of mem ps) (ap none (sym c.last_name-n.ensures.above) ∙ some_names)
-        (subst (λ (q : Path). some (at q) (entries_of mem ps) ≡ false) is (subst (Found (at (path_of (take (n - 0) path))) (entries_of mem ps)) none_found c.find.ensures.found)),
-    refl)
+    rw refused (
+      orphan_missing (path_of path) (state_of mem ps) (ap none (sym c.last_name-n.ensures.above) ∙ some_names)
+          (subst (λ (q : Path). some (at q) (entries_of mem ps) ≡ false) is (subst (Found (at (path_of (take (n - 0) path))) (entries_of mem ps)) none_found c.find.ensures.found)),
+      refl,
+    )
