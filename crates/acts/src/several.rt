@@ -119,6 +119,7 @@ fn too_large(acts: Acts<'_>) -> bool
     }
     let mut rest = acts.bytes;
     let mut sum = 0;
+    // kept: where the next act begins is known only once the last is read
     for n in 0..acts.count {
         let Some((act, behind)) = read_act(rest) else {
             unreachable!();
@@ -155,6 +156,7 @@ fn run_acts(
     let mut rest = acts.bytes;
     let mut stands = Stands::Last;
     let mut refused = None;
+    // kept: a rule of the repository: acts are gone through by a labelled loop, left at the first that is refused
     'acts: for n in 0..acts.count {
         let Some((act, behind)) = read_act(rest) else {
             unreachable!();

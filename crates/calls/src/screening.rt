@@ -16,6 +16,7 @@ pub enum NotLetIn {
 
 impl NotLetIn {
     // The number that is said to it.
+    // kept: both numbers are those of answers, in which others lie between them
     pub fn number(self) -> u8
         ensures { result ≡ number_of self }
     {

@@ -16,6 +16,7 @@ pub fn check_path(path: &[u8]) -> bool
 {
     let mut at = 0;
     let mut count = 0u8;
+    // kept: how far a name goes is read from the bytes, so there is nothing to go over by one
     while at < path.len() {
         let n = path[at] as usize;
         if n == 0 || n > 64 || n >= path.len() - at || count >= 16 {
@@ -43,6 +44,7 @@ impl<'a> Path<'a> {
         let names = self.names;
         let mut at = 0;
         let mut end = 1 + names[0] as usize;
+        // kept: as above
         while end < names.len() {
             at = end;
             end = at + 1 + names[at] as usize;

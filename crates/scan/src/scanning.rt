@@ -45,6 +45,7 @@ fn scan_cells(bytes: &[u8], from: usize, places: &mut [u32]) -> Option<usize>
     let mut at = from;
     let mut count = 0;
     places[0] = from as u32;
+    // kept: how far a cell goes is read from the bytes, so there is nothing to go over by one
     while at < bytes.len() {
         at += cell_len(&bytes[at..])?;
         count += 1;

@@ -2,17 +2,18 @@
 ghost use Rattle.std.specs.Prelude.{◌≡◌};
 ghost use Rattle.tree.specs.Answers.{reason, IsNumbered};
 
+// Each with the number that is told for it.
 #[derive(Clone, Copy, PartialEq, Eq)]
 pub enum Refusal {
-    OutOfRange,
-    NotThere,
-    AlreadyThere,
-    OtherVersion,
-    HasKids,
-    NoSession,
-    UnderSession,
-    UsedUp,
-    Full,
+    OutOfRange = 1,
+    NotThere = 2,
+    AlreadyThere = 3,
+    OtherVersion = 4,
+    HasKids = 5,
+    NoSession = 6,
+    UnderSession = 7,
+    UsedUp = 8,
+    Full = 9,
 }
 
 impl Refusal {
@@ -20,17 +21,7 @@ impl Refusal {
     pub fn number(self) -> u8
         ensures { result ≡ reason self }
     {
-        match self {
-            Refusal::OutOfRange => 1,
-            Refusal::NotThere => 2,
-            Refusal::AlreadyThere => 3,
-            Refusal::OtherVersion => 4,
-            Refusal::HasKids => 5,
-            Refusal::NoSession => 6,
-            Refusal::UnderSession => 7,
-            Refusal::UsedUp => 8,
-            Refusal::Full => 9,
-        }
+        self as u8
     }
 }
 
@@ -38,6 +29,7 @@ impl Refusal {
 #[derive(Clone, Copy, PartialEq, Eq)]
 pub struct NoRefusal(pub u8);
 
+// kept: std has no way from a number to an enum, and the clause says which number is whose
 impl TryFrom<u8> for Refusal {
     type Error = NoRefusal;
 

@@ -5,16 +5,16 @@ ghost use Rattle.wire.specs.Kinds.{kind_number, IsKind};
 use agreement::{Joining, Place, ProposalId, View};
 use service::outcome::Outcome;
 
-// The kinds of messages.
+// The kinds of messages, each with the byte that says so.
 #[derive(Clone, Copy, PartialEq, Eq)]
 pub enum Kind {
-    Prepare,
-    Promise,
-    Propose,
-    Alive,
-    Accepted,
-    Join,
-    Forward,
+    Prepare = 1,
+    Promise = 2,
+    Propose = 3,
+    Alive = 4,
+    Accepted = 5,
+    Join = 6,
+    Forward = 7,
 }
 
 impl Kind {
@@ -22,15 +22,7 @@ impl Kind {
     pub fn number(self) -> u8
         ensures { result ≡ kind_number self }
     {
-        match self {
-            Kind::Prepare => 1,
-            Kind::Promise => 2,
-            Kind::Propose => 3,
-            Kind::Alive => 4,
-            Kind::Accepted => 5,
-            Kind::Join => 6,
-            Kind::Forward => 7,
-        }
+        self as u8
     }
 }
 
@@ -38,6 +30,7 @@ impl Kind {
 #[derive(Clone, Copy, PartialEq, Eq)]
 pub struct NoKind(pub u8);
 
+// kept: std has no way from a number to an enum, and the clause says which number is whose
 impl TryFrom<u8> for Kind {
     type Error = NoKind;
 
