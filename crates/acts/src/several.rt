@@ -160,9 +160,7 @@ fn run_acts(
             });
         };
         let changes = if n + 1 == count { after } else { before };
-        match do_next(
-            tree, room, act, changes, stands, left, lefts, right, rights,
-        ) {
+        match do_next(tree, room, act, changes, stands, left, lefts, right, rights) {
             Ok(next) => stands = next,
             Err(refusal) => {
                 refused = Some(Refused { act: n, refusal });

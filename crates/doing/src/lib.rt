@@ -42,16 +42,38 @@ pub fn do_act(
             session,
         } => {
             make(
-                tree, room, act.path.names, act.value, session, changes, out, places,
+                tree,
+                room,
+                act.path.names,
+                act.value,
+                session,
+                changes,
+                out,
+                places,
             )
         }
         ActKind::Put(expected) => {
             put(
-                tree, room, act.path.names, act.value, expected, changes, out, places,
+                tree,
+                room,
+                act.path.names,
+                act.value,
+                expected,
+                changes,
+                out,
+                places,
             )
         }
         ActKind::Drop(expected) => drop(tree, room, act.path.names, expected, changes, out, places),
-        ActKind::Check(expected) => check(tree, room, act.path.names, expected, changes, out, places),
+        ActKind::Check(expected) => check(
+            tree,
+            room,
+            act.path.names,
+            expected,
+            changes,
+            out,
+            places,
+        ),
     }
 }
 
