@@ -1,6 +1,5 @@
 pub mod Many
 pub mod Back
-pub mod Acts
 pub mod Screens
 pub mod Again
 pub mod WrittenAgain

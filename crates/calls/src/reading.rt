@@ -95,6 +95,7 @@ fn past_name(bytes: &[u8]) -> Option<&[u8]>
 fn past_names(bytes: &[u8], count: u8) -> Option<&[u8]>
     ensures { option_map (λ x. x.now) result ≡ past name_at count bytes.now }
 {
+    // kept: with the reader of one as a closure, this loop and that over acts would need three clauses about it for one line
     let mut rest = bytes;
     for _ in 0..count {
         rest = past_name(rest)?;
@@ -177,6 +178,7 @@ pub fn read_act(bytes: &[u8]) -> Option<(Act<'_>, &[u8])>
 fn past_acts(bytes: &[u8], count: u8) -> Option<&[u8]>
     ensures { option_map (λ x. x.now) result ≡ past act_at count bytes.now }
 {
+    // kept: as over names
     let mut rest = bytes;
     for _ in 0..count {
         (_, rest) = read_act(rest)?;

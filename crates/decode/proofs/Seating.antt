@@ -2,7 +2,7 @@
 use Rattle.std.proofs.Common.{◌≡◌, ℕ, suc, ◌+◌, ◌-◌, ◌<◌, ◌≤◌, List, [], ◌∷◌, ◌++◌, length, take, set, Some, None, Option, sym, refl, ap, ◌∙◌, append_assoc, append-nil, arith, length-set}
 use Rattle.std.proofs.lemmas.List.{take_more_set, take_all}
 use Rattle.calls.specs.Format.{and_then}
-use Rattle.service.specs.declared.outcome.Outcome.{Outcome}
+use Rattle.service.specs.Service.{Outcome}
 use Rattle.agreement.specs.declared.Place.{Place}
 use Rattle.wire.specs.declared.types.Seats.{Seats}
 use Rattle.wire.specs.Messages.{seated, place_at, outcome_at, seats_at}

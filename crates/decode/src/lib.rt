@@ -1,34 +1,29 @@
 // Messages of replicas, read where they lie: what stands at the front of bytes, and the bytes behind it.
 #![tactic(auto)]
 
-ghost use Rattle.std.specs.Prelude.{◌≡◌};
+ghost use Rattle.std.specs.Prelude.{◌≡◌, ◌≤◌};
 ghost use Rattle.std.specs.Option.{option_map};
 ghost use Rattle.calls.specs.Reading.{behind};
-ghost use Rattle.wire.specs.Messages.{view_at, id_at, refused_by, outcome_at, place_at, seats_at, prepare_at, promise_at, propose_at, alive_at, accepted_at, join_at, forward_at, kind_at, word_at};
+ghost use Rattle.wire.specs.Messages.{view_at, id_at, refused_by, outcome_at, place_at, seats_at, prepare_at, promise_at, propose_at, alive_at, accepted_at, join_at, forward_at, kind_at, word_at, word_by};
+ghost use Rattle.wire.specs.Kinds.{kind_number};
 ghost use Rattle.wire.specs.Memory.{ReadProposal, ReadBy};
 
 use agreement::{Joining, Place, ProposalId, View};
-use calls::reading::{byte, flag, number};
+use calls::reading::{byte, flag, number, wholly};
 use service::outcome::Outcome;
 use tree::refusal::Refusal;
-use wire::types::{Forwarded, Message, Proposal, Seats};
+use wire::types::{Forwarded, Kind, Message, Proposal, Seats};
 
 // A view, whose leader is one of so many replicas.
 fn view(bytes: &[u8], all: u8) -> Option<(View, &[u8])>
     ensures { option_map behind result ≡ view_at all bytes.now }
 {
-    let Some((n, rest)) = number(bytes) else {
-        return None;
-    };
-    let Some((leader, rest)) = byte(rest) else {
-        return None;
-    };
+    let (n, rest) = number(bytes)?;
+    let (leader, rest) = byte(rest)?;
     if leader >= all {
         return None;
     }
-    let Some((incarnation, rest)) = number(rest) else {
-        return None;
-    };
+    let (incarnation, rest) = number(rest)?;
     let view = View {
         number: n,
         leader,
@@ -40,60 +35,36 @@ fn view(bytes: &[u8], all: u8) -> Option<(View, &[u8])>
 fn id(bytes: &[u8], all: u8) -> Option<(ProposalId, &[u8])>
     ensures { option_map behind result ≡ id_at all bytes.now }
 {
-    let Some((view, rest)) = view(bytes, all) else {
-        return None;
-    };
-    let Some((seq, rest)) = number(rest) else {
-        return None;
-    };
+    let (view, rest) = view(bytes, all)?;
+    let (seq, rest) = number(rest)?;
     Some((ProposalId { view, seq }, rest))
 }
 
 fn place(bytes: &[u8]) -> Option<(Place, &[u8])>
     ensures { option_map behind result ≡ place_at bytes.now }
 {
-    let Some((incarnation, rest)) = number(bytes) else {
-        return None;
-    };
-    let Some((no, rest)) = number(rest) else {
-        return None;
-    };
+    let (incarnation, rest) = number(bytes)?;
+    let (no, rest) = number(rest)?;
     Some((Place { incarnation, no }, rest))
 }
 
+// The refusal that a byte says.
 fn refused(byte: u8) -> Option<Refusal>
+    requires { 1 ≤ byte }
     ensures { result ≡ refused_by byte }
 {
-    match byte {
-        2 => Some(Refusal::OutOfRange),
-        3 => Some(Refusal::NotThere),
-        4 => Some(Refusal::AlreadyThere),
-        5 => Some(Refusal::OtherVersion),
-        6 => Some(Refusal::HasKids),
-        7 => Some(Refusal::NoSession),
-        8 => Some(Refusal::UnderSession),
-        9 => Some(Refusal::UsedUp),
-        10 => Some(Refusal::Full),
-        _ => None,
-    }
+    Refusal::try_from(byte - 1).ok()
 }
 
 // What is kept of the last write of a replica, if anything.
 fn outcome(bytes: &[u8]) -> Option<(Option<Outcome>, &[u8])>
     ensures { option_map behind result ≡ outcome_at bytes.now }
 {
-    let Some((b, rest)) = byte(bytes) else {
-        return None;
-    };
+    let (b, rest) = byte(bytes)?;
     match b {
         0 => Some((None, rest)),
-        1 => Some((Some(Outcome::Done), rest)),
-        _ => {
-            let Some(refusal) = refused(b) else {
-                return None;
-            };
-            Some((Some(Outcome::Refused(refusal)), rest))
-        }
+        1 => Some((Some(Ok(())), rest)),
+        _ => Some((Some(Err(refused(b)?)), rest)),
     }
 }
 
@@ -107,16 +78,13 @@ fn seats(bytes: &[u8]) -> Option<(Seats, &[u8])>
     }; 7];
     let mut outcomes = [None; 7];
     let mut rest = bytes;
+    // kept: seats are two arrays, and neither has anything to go over before it is filled
     for i in 0..7usize {
-        let Some((place, behind)) = place(rest) else {
-            return None;
-        };
-        let Some((outcome, behind)) = outcome(behind) else {
-            return None;
-        };
+        let (place, after) = place(rest)?;
+        let (outcome, after) = outcome(after)?;
         places[i] = place;
         outcomes[i] = outcome;
-        rest = behind;
+        rest = after;
     }
     Some((Seats { places, outcomes }, rest))
 }
@@ -125,39 +93,25 @@ fn seats(bytes: &[u8]) -> Option<(Seats, &[u8])>
 fn proposal(bytes: &[u8], all: u8) -> Option<Proposal<'_>>
     ensures { ReadProposal all bytes.now result }
 {
-    let Some((id, rest)) = id(bytes, all) else {
-        return None;
-    };
-    let Some((seats, tree)) = seats(rest) else {
-        return None;
-    };
+    let (id, rest) = id(bytes, all)?;
+    let (seats, tree) = seats(rest)?;
     Some(Proposal { id, seats, tree })
 }
 
 fn prepare(bytes: &[u8], all: u8) -> Option<Message<'_>>
     ensures { ReadBy (λ room bs. prepare_at room all bs) bytes.now result }
 {
-    let Some((view, rest)) = view(bytes, all) else {
-        return None;
-    };
-    if !rest.is_empty() {
-        return None;
-    }
+    let (view, rest) = view(bytes, all)?;
+    let view = wholly(view, rest)?;
     Some(Message::Prepare(view))
 }
 
 fn promise(bytes: &[u8], all: u8) -> Option<Message<'_>>
     ensures { ReadBy (λ room bs. promise_at room all bs) bytes.now result }
 {
-    let Some((view, rest)) = view(bytes, all) else {
-        return None;
-    };
-    let Some((incarnation, rest)) = number(rest) else {
-        return None;
-    };
-    let Some(proposal) = proposal(rest, all) else {
-        return None;
-    };
+    let (view, rest) = view(bytes, all)?;
+    let (incarnation, rest) = number(rest)?;
+    let proposal = proposal(rest, all)?;
     Some(Message::Promise {
         view,
         incarnation,
@@ -168,60 +122,36 @@ fn promise(bytes: &[u8], all: u8) -> Option<Message<'_>>
 fn propose(bytes: &[u8], all: u8) -> Option<Message<'_>>
     ensures { ReadBy (λ room bs. propose_at room all bs) bytes.now result }
 {
-    let Some((chosen, rest)) = flag(bytes) else {
-        return None;
-    };
-    let Some(proposal) = proposal(rest, all) else {
-        return None;
-    };
+    let (chosen, rest) = flag(bytes)?;
+    let proposal = proposal(rest, all)?;
     Some(Message::Propose { proposal, chosen })
 }
 
 fn alive(bytes: &[u8], all: u8) -> Option<Message<'_>>
     ensures { ReadBy (λ room bs. alive_at room all bs) bytes.now result }
 {
-    let Some((id, rest)) = id(bytes, all) else {
-        return None;
-    };
-    let Some((chosen, rest)) = flag(rest) else {
-        return None;
-    };
-    let Some((named, rest)) = number(rest) else {
-        return None;
-    };
-    if !rest.is_empty() {
-        return None;
-    }
+    let (id, rest) = id(bytes, all)?;
+    let (chosen, rest) = flag(rest)?;
+    let (named, rest) = number(rest)?;
+    let named = wholly(named, rest)?;
     Some(Message::Alive { id, chosen, named })
 }
 
 fn accepted(bytes: &[u8], all: u8) -> Option<Message<'_>>
     ensures { ReadBy (λ room bs. accepted_at room all bs) bytes.now result }
 {
-    let Some((id, rest)) = id(bytes, all) else {
-        return None;
-    };
-    let Some((incarnation, rest)) = number(rest) else {
-        return None;
-    };
-    if !rest.is_empty() {
-        return None;
-    }
+    let (id, rest) = id(bytes, all)?;
+    let (incarnation, rest) = number(rest)?;
+    let incarnation = wholly(incarnation, rest)?;
     Some(Message::Accepted { id, incarnation })
 }
 
 fn join(bytes: &[u8]) -> Option<Message<'_>>
     ensures { ReadBy join_at bytes.now result }
 {
-    let Some((incarnation, rest)) = number(bytes) else {
-        return None;
-    };
-    let Some((replaces, rest)) = number(rest) else {
-        return None;
-    };
-    if !rest.is_empty() {
-        return None;
-    }
+    let (incarnation, rest) = number(bytes)?;
+    let (replaces, rest) = number(rest)?;
+    let replaces = wholly(replaces, rest)?;
     Some(Message::Join(Joining {
         incarnation,
         replaces,
@@ -232,15 +162,9 @@ fn join(bytes: &[u8]) -> Option<Message<'_>>
 fn forward(bytes: &[u8]) -> Option<Message<'_>>
     ensures { ReadBy forward_at bytes.now result }
 {
-    let Some((incarnation, rest)) = number(bytes) else {
-        return None;
-    };
-    let Some((no, rest)) = number(rest) else {
-        return None;
-    };
-    let Some((n, call)) = number(rest) else {
-        return None;
-    };
+    let (incarnation, rest) = number(bytes)?;
+    let (no, rest) = number(rest)?;
+    let (n, call) = number(rest)?;
     Some(Message::Forward(Forwarded {
         incarnation,
         no,
@@ -253,36 +177,37 @@ fn forward(bytes: &[u8]) -> Option<Message<'_>>
 fn kind(bytes: &[u8]) -> Option<(u8, &[u8])>
     ensures { option_map behind result ≡ kind_at bytes.now }
 {
-    let Some((form, rest)) = byte(bytes) else {
-        return None;
-    };
+    let (form, rest) = byte(bytes)?;
     if form != 0 {
         return None;
     }
-    let Some((beginning, rest)) = number(rest) else {
-        return None;
-    };
+    let (beginning, rest) = number(rest)?;
     if beginning != 0 {
         return None;
     }
     byte(rest)
 }
 
+// A message of this kind, behind the front: all of the bytes are one, or it is none.
+fn message(kind: Kind, bytes: &[u8], all: u8) -> Option<Message<'_>>
+    ensures { ReadBy (λ room bs. word_by room all (kind_number kind) bs) bytes.now result }
+{
+    match kind {
+        Kind::Prepare => prepare(bytes, all),
+        Kind::Promise => promise(bytes, all),
+        Kind::Propose => propose(bytes, all),
+        Kind::Alive => alive(bytes, all),
+        Kind::Accepted => accepted(bytes, all),
+        Kind::Join => join(bytes),
+        Kind::Forward => forward(bytes),
+    }
+}
+
 // A message among so many replicas: all of the bytes are one, or it is none. Whether the bytes of a tree are one is left open.
 pub fn read_message(bytes: &[u8], all: u8) -> Option<Message<'_>>
     ensures { ReadBy (λ room bs. word_at room all bs) bytes.now result }
 {
-    let Some((kind, rest)) = kind(bytes) else {
-        return None;
-    };
-    match kind {
-        1 => prepare(rest, all),
-        2 => promise(rest, all),
-        3 => propose(rest, all),
-        4 => alive(rest, all),
-        5 => accepted(rest, all),
-        6 => join(rest),
-        7 => forward(rest),
-        _ => None,
-    }
+    let (number, rest) = kind(bytes)?;
+    let kind = Kind::try_from(number).ok()?;
+    message(kind, rest, all)
 }

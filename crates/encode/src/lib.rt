@@ -6,20 +6,21 @@ ghost use Rattle.lent_bytes.specs.Numbers.{be8};
 ghost use Rattle.lent_bytes.specs.Writing.{Added};
 ghost use Rattle.calls.specs.Format.{flag_written};
 ghost use Rattle.wire.specs.Messages.{front, view_bytes, id_bytes, outcome_byte, seat_bytes, seats_bytes};
+ghost use Rattle.wire.specs.Kinds.{kind_number};
 ghost use Rattle.wire.specs.Memory.{proposal_written, message_written, message_long};
 
 use agreement::{Joining, Place, ProposalId, View};
 use lent_bytes::writing::{append_bytes, append_u64};
 use service::outcome::Outcome;
-use wire::types::{Forwarded, Message, Proposal, Seats};
+use wire::types::{Forwarded, Kind, Message, Proposal, Seats};
 
 // Begins a message of a kind.
-fn append_front(out: &mut [u8], kind: u8) -> usize
+fn append_front(out: &mut [u8], kind: Kind) -> usize
     requires { 10 ≤ length out.old }
     ensures end { result ≡ 10 }
-    ensures added { Added 0 out.old (front kind []) result out.new }
+    ensures added { Added 0 out.old (front (kind_number kind) []) result out.new }
 {
-    append_bytes(out, 0, &[0, 0, 0, 0, 0, 0, 0, 0, 0, kind])
+    append_bytes(out, 0, &[0, 0, 0, 0, 0, 0, 0, 0, 0, kind.number()])
 }
 
 fn append_view(out: &mut [u8], at: usize, view: View) -> usize
@@ -46,8 +47,8 @@ fn outcome_byte(outcome: Option<Outcome>) -> u8
 {
     match outcome {
         None => 0,
-        Some(Outcome::Done) => 1,
-        Some(Outcome::Refused(refusal)) => 1 + refusal.number(),
+        Some(Ok(())) => 1,
+        Some(Err(refusal)) => 1 + refusal.number(),
     }
 }
 
@@ -67,8 +68,8 @@ fn append_seats(out: &mut [u8], at: usize, seats: Seats) -> usize
     ensures added { Added at out.old (seats_bytes seats.places seats.outcomes) result out.new }
 {
     let mut end = at;
-    for i in 0..7usize {
-        end = append_seat(out, end, seats.places[i], seats.outcomes[i]);
+    for (place, outcome) in seats.places.iter().zip(&seats.outcomes) {
+        end = append_seat(out, end, *place, *outcome);
     }
     end
 }
@@ -84,19 +85,13 @@ fn append_proposal(out: &mut [u8], at: usize, proposal: Proposal) -> usize
     append_bytes(out, b, proposal.tree)
 }
 
-fn flag_byte(flag: bool) -> u8
-    ensures { result ≡ flag_written flag }
-{
-    if flag { 1 } else { 0 }
-}
-
 // Promise this view to its leader.
 fn write_prepare(out: &mut [u8], view: View) -> usize
     requires { 27 ≤ length out.old }
     ensures end { result ≡ 27 }
     ensures added { Added 0 out.old (front 1 (view_bytes view)) result out.new }
 {
-    let at = append_front(out, 1);
+    let at = append_front(out, Kind::Prepare);
     append_view(out, at, view)
 }
 
@@ -106,7 +101,7 @@ fn write_promise(out: &mut [u8], view: View, incarnation: u64, proposal: Proposa
     ensures end { result ≡ 179 + length proposal.entry.tree.now }
     ensures added { Added 0 out.old (front 2 (view_bytes view ++ (be8 incarnation ++ proposal_written proposal.entry))) result out.new }
 {
-    let at = append_front(out, 2);
+    let at = append_front(out, Kind::Promise);
     let a = append_view(out, at, view);
     let b = append_u64(out, a, incarnation);
     append_proposal(out, b, proposal)
@@ -118,8 +113,8 @@ fn write_propose(out: &mut [u8], proposal: Proposal, chosen: bool) -> usize
     ensures end { result ≡ 155 + length proposal.entry.tree.now }
     ensures added { Added 0 out.old (front 3 (flag_written chosen ∷ proposal_written proposal.entry)) result out.new }
 {
-    let at = append_front(out, 3);
-    let a = append_bytes(out, at, &[flag_byte(chosen)]);
+    let at = append_front(out, Kind::Propose);
+    let a = append_bytes(out, at, &[u8::from(chosen)]);
     append_proposal(out, a, proposal)
 }
 
@@ -129,9 +124,9 @@ fn write_alive(out: &mut [u8], id: ProposalId, chosen: bool, named: u64) -> usiz
     ensures end { result ≡ 44 }
     ensures added { Added 0 out.old (front 4 (id_bytes id ++ (flag_written chosen ∷ be8 named))) result out.new }
 {
-    let at = append_front(out, 4);
+    let at = append_front(out, Kind::Alive);
     let a = append_id(out, at, id);
-    let b = append_bytes(out, a, &[flag_byte(chosen)]);
+    let b = append_bytes(out, a, &[u8::from(chosen)]);
     append_u64(out, b, named)
 }
 
@@ -141,7 +136,7 @@ fn write_accepted(out: &mut [u8], id: ProposalId, incarnation: u64) -> usize
     ensures end { result ≡ 43 }
     ensures added { Added 0 out.old (front 5 (id_bytes id ++ be8 incarnation)) result out.new }
 {
-    let at = append_front(out, 5);
+    let at = append_front(out, Kind::Accepted);
     let a = append_id(out, at, id);
     append_u64(out, a, incarnation)
 }
@@ -152,7 +147,7 @@ fn write_join(out: &mut [u8], joining: Joining) -> usize
     ensures end { result ≡ 26 }
     ensures added { Added 0 out.old (front 6 (be8 joining.incarnation ++ be8 joining.replaces)) result out.new }
 {
-    let at = append_front(out, 6);
+    let at = append_front(out, Kind::Join);
     let a = append_u64(out, at, joining.incarnation);
     append_u64(out, a, joining.replaces)
 }
@@ -163,7 +158,7 @@ fn write_forward(out: &mut [u8], asked: Forwarded) -> usize
     ensures end { result ≡ 34 + length asked.entry.call.now }
     ensures added { Added 0 out.old (front 7 (be8 asked.entry.incarnation ++ (be8 asked.entry.no ++ (be8 asked.entry.number ++ asked.entry.call.now)))) result out.new }
 {
-    let at = append_front(out, 7);
+    let at = append_front(out, Kind::Forward);
     let a = append_u64(out, at, asked.incarnation);
     let b = append_u64(out, a, asked.no);
     let c = append_u64(out, b, asked.number);

@@ -15,6 +15,8 @@ pub fn append_bytes(out: &mut [u8], at: usize, src: &[u8]) -> usize
     end
 }
 
+// Writes a number as four bytes.
+// kept: one line for each width over append_bytes; a trait over both would only wrap it
 pub fn append_u32(out: &mut [u8], at: usize, word: u32) -> usize
     requires { at + 4 ≤ length out.old }
     ensures end { result ≡ at + 4 }
@@ -23,6 +25,8 @@ pub fn append_u32(out: &mut [u8], at: usize, word: u32) -> usize
     append_bytes(out, at, &word.to_be_bytes())
 }
 
+// Writes a number as eight bytes.
+// kept: as above
 pub fn append_u64(out: &mut [u8], at: usize, number: u64) -> usize
     requires { at + 8 ≤ length out.old }
     ensures end { result ≡ at + 8 }

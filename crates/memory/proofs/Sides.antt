@@ -1,5 +1,5 @@
 -- A side on which a tree stands, read as a tree; and bytes taken over to a side. Assumes nothing.
-use Rattle.std.proofs.Common.{◌≡◌, ℕ, ◌+◌, ◌≤◌, Bool, true, false, cond, List, length, take, Some, None, sym, refl, ap, ◌∙◌, subst, arith}
+use Rattle.std.proofs.Common.{◌≡◌, ℕ, ◌+◌, ◌≤◌, Bool, cond, List, length, take, Some, None, sym, refl, ap, ◌∙◌, subst, arith}
 use Rattle.cells.specs.declared.draft.Size.{Size}
 use Rattle.cells.specs.Layout.{Holds, state_of}
 use Rattle.cells.specs.Drafts.{drafting, bytes_in, places_in}
@@ -7,11 +7,13 @@ use Rattle.cells.specs.Fits.{Fits, Suits}
 use Rattle.scan.specs.Scans.{places_of, meaning, IsTree}
 use Rattle.scan.proofs.Uniques.{holds_unique, is_tree_lem}
 use Rattle.tree.proofs.Weighs.{space}
-use Rattle.content.specs.Content.{is_tree, tree_at}
+use Rattle.content.specs.Content.{tree_at}
 use Rattle.content.proofs.Decided.{tree_decided}
 use Rattle.memory.specs.declared.lent.Memory.{Memory}
 use Rattle.memory.specs.declared.lent.Kept.{Kept}
-use Rattle.memory.specs.Keeps.{Side, left_side, right_side, standing, state_at, slot_in, ring, queue, waiting_at, Slots, Sound, Stands, Unmoved, HeldAs, TakenTo}
+use Rattle.memory.specs.declared.lent.Side as lent
+use Rattle.memory.specs.declared.lent.Side.TheVariants as on
+use Rattle.memory.specs.Keeps.{Side, side_at, left_side, right_side, standing, state_at, Stands, HeldAs, TakenTo}
 
 -- bytes and places that hold a tree that fits are one by the test, too
 pub is_tree_at : (room : ℕ) (bytes ps : List ℕ) → Holds bytes ps → Fits room (state_of bytes ps) → tree_at room bytes ≡ Some (state_of bytes ps)
@@ -31,9 +33,6 @@ held_as room s bytes ps h p q =
 pub tree_long : (room : ℕ) (bytes : List ℕ) → IsTree room bytes → length bytes ≤ room + 32796
 tree_long room bytes t = let takes = space bytes (places_of bytes) t.holds t.fits.few in let weighs = t.fits.weighs in omega arith
 
-pub not_taken : (room : ℕ) (body : List ℕ) → is_tree room body ≡ false → tree_at room body ≡ None
-not_taken room body e = ap (λ (b : Bool). cond b (Some (meaning body)) None) e
-
 pub taken : (room : ℕ) (body out ps : List ℕ) (z : Size) → IsTree room body → z.used ≤ length out → z.count + 1 ≤ length ps → take z.used out ≡ body → take (z.count + 1) ps ≡ places_of body → TakenTo room body out ps (Some z)
 taken room body out ps z t u c p q =
     let h : Holds (take z.used out) (take (z.count + 1) ps) = subst (λ (x : List ℕ). Holds x (take (z.count + 1) ps)) (sym p) (subst (λ (y : List ℕ). Holds body y) (sym q) t.holds) in
@@ -41,59 +40,14 @@ taken room body out ps z t u c p q =
     (ap (λ (b : Bool). cond b (Some (meaning body)) None) ((tree_decided room body).1 t) ∙ ap Some e, record { drafts = record { holds = h; inside = u; counted = c }; fits = subst (Fits room) e t.fits })
 
 -- WHICH SIDE STANDS
-pub right_stands : (k : Kept) (m : Memory) → k.second ≡ true → standing k m ≡ right_side k m
-right_stands k m e = ap (λ (b : Bool). cond b (right_side k m) (left_side k m)) e
+pub right_stands : (k : Kept) (m : Memory) → k.stands ≡ on.Right → standing k m ≡ right_side k m
+right_stands k m e = ap (λ (s : lent.Side). side_at s (left_side k m) (right_side k m)) e
 
-pub left_stands : (k : Kept) (m : Memory) → k.second ≡ false → standing k m ≡ left_side k m
-left_stands k m e = ap (λ (b : Bool). cond b (right_side k m) (left_side k m)) e
+pub left_stands : (k : Kept) (m : Memory) → k.stands ≡ on.Left → standing k m ≡ left_side k m
+left_stands k m e = ap (λ (s : lent.Side). side_at s (left_side k m) (right_side k m)) e
 
 pub held_side : (room : ℕ) (s t : Side) (bytes ps : List ℕ) → s ≡ t → Stands room s → bytes ≡ bytes_in t.bytes t.size → ps ≡ places_in t.places t.size → HeldAs room (state_at s) bytes ps
 held_side room s t bytes ps e h p q = subst (λ (x : Side). HeldAs room (state_at x) bytes ps) (sym e) (held_as room t bytes ps (subst (Stands room) e h) p q)
 
--- what is written beside the tree that stands leaves it alone
-pub right_stays : (k : Kept) (m n : Memory) → k.second ≡ true → right_side k n ≡ right_side k m → standing k n ≡ standing k m
-right_stays k m n e h = right_stands k n e ∙ (h ∙ sym (right_stands k m e))
-
-pub left_stays : (k : Kept) (m n : Memory) → k.second ≡ false → left_side k n ≡ left_side k m → standing k n ≡ standing k m
-left_stays k m n e h = left_stands k n e ∙ (h ∙ sym (left_stands k m e))
-
 pub suits_long : (room : ℕ) (out ps out' ps' : List ℕ) → Suits room out ps → length out' ≡ length out → length ps' ≡ length ps → Suits room out' ps'
 suits_long room out ps out' ps' s p q = record { bytes = omega (arith, s.bytes); small = omega (arith, s.small); words = omega (arith, s.words) }
-
--- where the tree that stands, the calls and the answers so far are the same, all is
-pub unmoved : (k : Kept) (m n : Memory) → Sound k m → standing k n ≡ standing k m → n.ends.now ≡ m.ends.now → n.calls.now ≡ m.calls.now → take k.replied n.replies.now ≡ take k.replied m.replies.now →
-    length n.replies.now ≡ length m.replies.now → Suits k.room n.left.now n.left_places.now → Suits k.room n.right.now n.right_places.now → Unmoved k m n
-unmoved k m n s side ends calls replies long left right =
-    record {
-      state = ap state_at side;
-      calls =
-          record {
-            waiting = λ room i. ring k.count (waiting_at room k.numbers (slot_in k.slot (ends i) (calls i))) k.first;
-            queued = λ room i. queue room (slot_in k.slot (ends i) (calls i)) 0 k.queue;
-            slots = λ j i. slot_in k.slot (ends i) (calls i) j;
-            first = refl;
-            count = refl;
-          };
-      replies = replies;
-      sound =
-          record {
-            left = left;
-            right = right;
-            stands = subst (Stands k.room) (sym side) s.stands;
-            slots = subst (λ (xs : List ℕ). Slots k.slot xs n.calls.now) (sym ends) (subst (Slots k.slot m.ends.now) (sym calls) s.slots);
-            first = s.first;
-            count = s.count;
-            answering = record { two = omega (arith, s.answering.two); small = omega (arith, s.answering.small) };
-            replied = omega (arith, s.replied);
-          };
-    }
-
-pub unmoved_left : (k : Kept) (m n : Memory) → Sound k m → k.second ≡ true → right_side k n ≡ right_side k m → n.ends.now ≡ m.ends.now → n.calls.now ≡ m.calls.now → n.replies.now ≡ m.replies.now →
-    length n.left.now ≡ length m.left.now → length n.left_places.now ≡ length m.left_places.now → Suits k.room n.right.now n.right_places.now → Unmoved k m n
-unmoved_left k m n s e side ends calls replies a b right =
-    unmoved k m n s (right_stays k m n e side) ends calls (ap (take k.replied) replies) (ap length replies) (suits_long k.room m.left.now m.left_places.now n.left.now n.left_places.now s.left a b) right
-
-pub unmoved_right : (k : Kept) (m n : Memory) → Sound k m → k.second ≡ false → left_side k n ≡ left_side k m → n.ends.now ≡ m.ends.now → n.calls.now ≡ m.calls.now → n.replies.now ≡ m.replies.now →
-    length n.right.now ≡ length m.right.now → length n.right_places.now ≡ length m.right_places.now → Suits k.room n.left.now n.left_places.now → Unmoved k m n
-unmoved_right k m n s e side ends calls replies a b left =
-    unmoved k m n s (left_stays k m n e side) ends calls (ap (take k.replied) replies) (ap length replies) left (suits_long k.room m.right.now m.right_places.now n.right.now n.right_places.now s.right a b)

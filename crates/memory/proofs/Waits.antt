@@ -20,12 +20,6 @@ unfolding ring
 ring_same zero f g i l h = refl
 ring_same (suc n) f g i l h = let r = ring_same n f g ((i + 1) % 8) (omega arith) h in let y = h i l in λ t. y t ∷ r t
 
--- the oldest, read off the list
-pub ring_first : {X : Type 0} (n : ℕ) (f : ℕ → X) (i : ℕ) (x : X) (xs : List X) → ring n f i ≡ x ∷ xs → (0 < n) × (f i ≡ x)
-unfolding ring
-ring_first zero f i x xs e = absurd (let z : ◌≡◌ {A = ℕ} 0 1 = cc in omega arith)
-ring_first (suc n) f i x xs e = (omega arith, cc)
-
 pub ring_length : {X : Type 0} (n : ℕ) (f : ℕ → X) (i : ℕ) → length (ring n f i) ≡ n
 unfolding ring
 ring_length zero f i = refl

@@ -1,5 +1,5 @@
 -- What lent memory stands for: the tree that stands, the calls that wait and those that were forwarded, as the machine's mind has them. Assumes nothing.
-use Rattle.std.specs.Prelude.{◌≡◌, ℕ, zero, suc, ◌+◌, ◌*◌, ◌%◌, ◌<◌, ◌≤◌, cond, List, [], ◌∷◌, ◌++◌, length, take, drop, Some, None, Option, slice_index}
+use Rattle.std.specs.Prelude.{◌≡◌, ℕ, zero, suc, ◌+◌, ◌*◌, ◌%◌, ◌<◌, ◌≤◌, List, [], ◌∷◌, ◌++◌, length, take, drop, Some, None, Option, slice_index}
 use Rattle.std.specs.Option.{option_map}
 use Rattle.model.specs.Tree.{State, blank}
 use Rattle.cells.specs.declared.draft.Size.{Size}
@@ -13,6 +13,9 @@ use Rattle.agreement.specs.Machine.{Waiting, Forwarded}
 use Rattle.memory.specs.declared.lent.Memory.{Memory}
 use Rattle.memory.specs.declared.lent.Queued.{Queued}
 use Rattle.memory.specs.declared.lent.Kept.{Kept}
+use Rattle.memory.specs.declared.lent.Side as lent
+use Rattle.memory.specs.declared.lent.Side.TheVariants as on
+use Rattle.memory.specs.Rooms.{other_side}
 
 -- THE TREE THAT STANDS. A side of memory: a buffer, its places, and how much of them a tree takes
 pub record Side : Type 0 where
@@ -21,13 +24,17 @@ pub record Side : Type 0 where
   pub size : Size
 
 abbrev pub left_side : Kept → Memory → Side
-left_side k m = record { bytes = m.left.now; places = m.left_places.now; size = k.left }
+left_side k m = record { bytes = m.left.bytes.now; places = m.left.places.now; size = k.size }
 
 abbrev pub right_side : Kept → Memory → Side
-right_side k m = record { bytes = m.right.now; places = m.right_places.now; size = k.right }
+right_side k m = record { bytes = m.right.bytes.now; places = m.right.places.now; size = k.size }
+
+abbrev pub side_at : lent.Side → (left right : Side) → Side
+side_at on.Left l r = l
+side_at on.Right l r = r
 
 abbrev pub standing : Kept → Memory → Side
-standing k m = cond k.second (right_side k m) (left_side k m)
+standing k m = side_at k.stands (left_side k m) (right_side k m)
 
 abbrev pub state_at : Side → State
 state_at s = drafting s.bytes s.places s.size
@@ -95,8 +102,8 @@ pub record Answering (room : ℕ) (replies : List ℕ) : Type 0 where
 
 -- WHAT ALWAYS HOLDS of what is kept
 pub record Sound (k : Kept) (m : Memory) : Type 0 where
-  pub left : Suits k.room m.left.now m.left_places.now
-  pub right : Suits k.room m.right.now m.right_places.now
+  pub left : Suits k.room m.left.bytes.now m.left.places.now
+  pub right : Suits k.room m.right.bytes.now m.right.places.now
   pub stands : Stands k.room (standing k m)
   pub slots : Slots k.slot m.ends.now m.calls.now
   pub first : k.first < 8
@@ -149,6 +156,16 @@ pub record Turned (k : Kept) (m : Memory) (r : Kept) (n : Memory) : Type 0 where
   pub replies : replies_in r n ≡ replies_in k m
   pub sound : Sound r n
 
+-- the tree that was written beside the one that stands, if one was, stands from now on
+abbrev pub turned_to : Option Size → Kept → Kept
+turned_to None k = k
+turned_to (Some z) k = record { room = k.room; slot = k.slot; stands = other_side k.stands; size = z; outcomes = k.outcomes; first = k.first; count = k.count; numbers = k.numbers; queue = k.queue; replied = k.replied }
+
+-- on the other side from the tree that stands bytes are a tree that fits the room, or they are none
+abbrev pub TakenBeside : Kept → (body : List ℕ) → Memory → Option Size → Type 0
+TakenBeside k body n None = tree_at k.room body ≡ None
+TakenBeside k body n (Some z) = (tree_at k.room body ≡ Some (state_in (turned_to (Some z) k) n)) × Stands k.room (standing (turned_to (Some z) k) n)
+
 abbrev pub AcceptedAs : Kept → Memory → (body : List ℕ) → Option Kept → Memory → Type 0
 AcceptedAs k m body None n = tree_at k.room body ≡ None
 AcceptedAs k m body (Some r) n = (tree_at k.room body ≡ Some (state_in r n)) × Turned k m r n
@@ -182,8 +199,8 @@ pub record QueueChanged (to : (room : ℕ) → List (Option (Forwarded (lines ro
 
 -- BEGINNING. Memory that is long enough for a room
 pub record Lent (room : ℕ) (m : Memory) : Type 0 where
-  pub left : Suits room m.left.now m.left_places.now
-  pub right : Suits room m.right.now m.right_places.now
+  pub left : Suits room m.left.bytes.now m.left.places.now
+  pub right : Suits room m.right.bytes.now m.right.places.now
   pub calls : LentCalls m.calls.now m.ends.now
   pub answering : Answering room m.replies.now
 

@@ -1,22 +1,10 @@
 // Memory as it is lent, whatever lies in it: the first tree, and nothing that waits.
 ghost use Rattle.std.specs.Prelude.{◌≡◌, ℕ, ◌<◌, ◌≤◌, length, Decides, slice_index};
-ghost use Rattle.cells.specs.Fits.{Suits};
 ghost use Rattle.memory.specs.Keeps.{Lent, LentCalls, Answering, BegunAs};
 
-use crate::lent::{Kept, Memory};
-use cells::draft::Size;
+use crate::lent::{Kept, Memory, Side};
 use drafts::writing::start_blank;
-
-// Are a buffer and its places long enough for every tree of the room.
-fn suits_tree(room: u64, out: &[u8], places: &[u32]) -> bool
-    ensures { Decides result (Suits room out.now places.now) }
-{
-    if out.len() > 4294967295 || room > 4294967295 {
-        return false;
-    }
-    let n = room as usize;
-    n + 32796 <= out.len() && n / 1280 + 1 <= places.len()
-}
+use service::clerk::suits_tree;
 
 // Is there room for two answers.
 fn suits_answers(room: u64, replies: &[u8]) -> bool
@@ -39,16 +27,10 @@ fn suits_calls(calls: &[u8], ends: &[u32]) -> bool
 fn suits(room: u64, memory: &Memory) -> bool
     ensures { Decides result (Lent room memory.now) }
 {
-    if !suits_tree(room, memory.left, memory.left_places) {
-        return false;
-    }
-    if !suits_tree(room, memory.right, memory.right_places) {
-        return false;
-    }
-    if !suits_calls(memory.calls, memory.ends) {
-        return false;
-    }
-    suits_answers(room, memory.replies)
+    suits_tree(room, memory.left.bytes, memory.left.places)
+        && suits_tree(room, memory.right.bytes, memory.right.places)
+        && suits_calls(memory.calls, memory.ends)
+        && suits_answers(room, memory.replies)
 }
 
 // No call lies in any slot.
@@ -56,9 +38,7 @@ fn clear(ends: &mut [u32])
     requires { 15 ≤ length ends.old }
     ensures { (k : ℕ) → k < 15 → slice_index ends.new k ≡ 0 }
 {
-    for i in 0..15 {
-        ends[i] = 0;
-    }
+    ends[..15].fill(0);
 }
 
 // What is where in memory as it was lent: the first tree stands, and nothing waits. Nothing where the memory is too short for the room.
@@ -68,16 +48,16 @@ pub fn begin(room: u64, memory: &mut Memory) -> Option<Kept>
     if !suits(room, memory) {
         return None;
     }
-    let places = std::mem::replace(&mut memory.left_places, &mut []);
-    let left = start_blank(memory.left, places);
-    memory.left_places = places;
+    // kept: one call may be lent one field of what is behind a &mut: so the places are taken out, and put back
+    let places = std::mem::replace(&mut memory.left.places, &mut []);
+    let size = start_blank(memory.left.bytes, places);
+    memory.left.places = places;
     clear(memory.ends);
     Some(Kept {
         room,
         slot: memory.calls.len() / 15,
-        second: false,
-        left,
-        right: Size { used: 0, count: 0 },
+        stands: Side::Left,
+        size,
         outcomes: [None; 7],
         first: 0,
         count: 0,

@@ -1,16 +1,43 @@
 // The memory that is lent to a replica, and what is where in it.
+ghost use Rattle.std.specs.Prelude.{◌≡◌};
+ghost use Rattle.memory.specs.Rooms.{other_side};
+
 use cells::draft::Size;
 use service::outcome::Outcome;
 
-// The memory: two buffers for trees with the places of their entries, calls in fifteen slots of equal size with how long each is, the answers of this turn.
+// A buffer for a tree, and one for the places of its entries.
+#[derive(Drop)]
+pub struct TreeRoom<'b, 'p> {
+    pub bytes: &'b mut [u8],
+    pub places: &'p mut [u32],
+}
+
+// The memory: two rooms for trees, calls in fifteen slots of equal size with how long each is, the answers of this turn.
 pub struct Memory<'l, 'r, 'p, 'q, 'c, 'e, 'a> {
-    pub left: &'l mut [u8],
-    pub right: &'r mut [u8],
-    pub left_places: &'p mut [u32],
-    pub right_places: &'q mut [u32],
+    pub left: TreeRoom<'l, 'p>,
+    pub right: TreeRoom<'r, 'q>,
     pub calls: &'c mut [u8],
     pub ends: &'e mut [u32],
     pub replies: &'a mut [u8],
+}
+
+// The room in which the tree stands; the next is written into the other.
+#[derive(Clone, Copy, PartialEq, Eq)]
+pub enum Side {
+    Left,
+    Right,
+}
+
+impl Side {
+    // The room beside it.
+    pub fn other(self) -> Side
+        ensures { result ≡ other_side self }
+    {
+        match self {
+            Side::Left => Side::Right,
+            Side::Right => Side::Left,
+        }
+    }
 }
 
 // A call that a replica forwarded: by which incarnation, its number there, and its client's number.
@@ -21,15 +48,15 @@ pub struct Queued {
     pub number: u64,
 }
 
-// What is where: the bytes of a slot, which buffer stands and how much of each a tree takes, what is kept of the last write of each replica,
+// What is where: the bytes of a slot, in which room the tree stands and how much of it the tree takes, what is kept of the last write of each replica,
 // the ring of calls that wait (from `first` on, `count` of them, with their clients' numbers), what was forwarded by each replica, and where the answers end.
+// kept: fixed memory, with no heap in a turn: ring, queue and outcomes are arrays of fixed length.
 #[derive(Clone, Copy)]
 pub struct Kept {
     pub room: u64,
     pub slot: usize,
-    pub second: bool,
-    pub left: Size,
-    pub right: Size,
+    pub stands: Side,
+    pub size: Size,
     pub outcomes: [Option<Outcome>; 7],
     pub first: usize,
     pub count: usize,

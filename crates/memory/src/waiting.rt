@@ -7,10 +7,11 @@ ghost use Rattle.memory.specs.Range.{WaitingIsShort};
 ghost use Rattle.memory.specs.Keeps.{slot_at, state_in, waiting_in, queued_in, replies_in, forwarded, behind_all, Slots, Sound, PutAt, SameBeside, OldestDropped, QueueChanged};
 
 use crate::lent::{Kept, Memory, Queued};
-use calls::screening::{Screened, screen};
+use calls::screening::screen;
 use calls::types::Call;
 
 // Writes bytes into a part.
+// kept: append_bytes tells nothing of what is behind the part that it writes
 fn write_at(out: &mut [u8], at: usize, bytes: &[u8])
     requires { at + length bytes.now ≤ length out.old }
     ensures { PutAt at bytes.now out.old out.new }
@@ -35,19 +36,7 @@ pub fn call_at<'b>(kept: Kept, memory: &'b Memory, slot: usize) -> &'b [u8]
 fn is_look(bytes: &[u8]) -> bool
     ensures { result ≡ looks (screened bytes.now) }
 {
-    match screen(bytes) {
-        Screened::NotBuilt => false,
-        Screened::NoCall => false,
-        Screened::LetIn(call) => {
-            match call {
-                Call::Do(_, _) => false,
-                Call::Look(_) => true,
-                Call::Kids(_) => true,
-                Call::Open => false,
-                Call::End(_) => false,
-            }
-        }
-    }
+    matches!(screen(bytes), Ok(Call::Look(_) | Call::Kids(_)))
 }
 
 // Does the call in a slot only look.

@@ -14,9 +14,10 @@ use Rattle.service.specs.declared.clerk.Answered.{Answered}
 use Rattle.tree.specs.declared.refusal.Refusal.{Refusal}
 use Rattle.tree.specs.Answers.{made_by, out_of}
 use Rattle.service.specs.declared.asking.Asked.{Asked}
+use Rattle.service.specs.declared.asking.AtOnce.{AtOnce}
 use Rattle.service.specs.Asking.{AskedAs}
-use Rattle.service.specs.Service.{Outcome, reply_to, next_to, keep_to, outcome_of, at_once, act_in_range, say_to}
-use Rattle.service.specs.Answering.{Says, left_by, kept_of, next_of, leaves, Wrote, Answers}
+use Rattle.service.specs.Service.{Outcome, reply_to, next_to, outcome_of, at_once, act_in_range, say_to}
+use Rattle.service.specs.Answering.{Says, left_by, kept_of, next_of, Wrote, Answers}
 use Rattle.service.proofs.Lawfulness.{at_once_lem, refusal_back, kept_at, Core, core_screened}
 
 -- entries weigh more than their number tells
@@ -42,6 +43,11 @@ asked_range a e = none_in_range (act_in_range a) (No 0 1) e
 -- what a call asks, by a case of it
 pub asked_is : (sc : Screen) (x y : Asked) → AskedAs sc (Ok x) → x ≡ y → AskedAs sc (Ok y)
 asked_is sc x y a e = subst (λ (z : Asked). AskedAs sc (Ok z)) e a
+
+-- what a call asks that is not refused at once
+pub asked_ok : (sc : Screen) (r : Result Asked AtOnce) (x : Asked) → AskedAs sc r → result_ok r ≡ Some x → AskedAs sc (Ok x)
+asked_ok sc (Ok y) x a e = asked_is sc y x a (cc)
+asked_ok sc (Err k) x a e = absurd (let z : ◌≡◌ {A = ℕ} 0 1 = cc in omega arith)
 
 -- what is kept of a write, and the tree that it wrote, as the code takes them
 pub kept_by : (w : Result Size Refusal) (k : Outcome) (P : Size → Unit {0} → Type 0) → MatchResult w (λ z. IsOkAnd k (P z)) (λ e. k ≡ Err e) → k ≡ kept_of w

@@ -34,8 +34,7 @@ module _ (path left : List ℕ) (count : ℕ) (c : Counted path left count) wher
           let k : length m ≡ n = ap (λ (l : List ℕ). get_or l 0 0) both in
           let behind : m ++ path_bytes ms ≡ rest = ap (drop 1) both in
           let left' : drop n rest ≡ path_bytes ms = ap (drop n) (sym behind) ∙ drop_at m (path_bytes ms) n k in
-          let names = ap length e in
-          (
+          let names = ap length e in (
             omega (arith, ap length behind, length-append m (path_bytes ms)),
             omega (arith, c.many),
             record { spells = spells_is (drop n rest) ms left'; many = omega (arith, c.many, ap length (path_is (drop n rest) ms left')) },

@@ -15,6 +15,7 @@ use lent_bytes::writing::{append_bytes, append_u32, append_u64};
 use tree::looking::{Seen, kids, look};
 
 // The answer to what is refused.
+// kept: the number is that of one of two enums, a refusal or why a call is refused at once
 pub fn say_refused(number: u8, out: &mut [u8]) -> usize
     requires { 3 ≤ length out.old }
     ensures { Says (No 0 number) out.new result }

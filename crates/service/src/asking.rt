@@ -4,7 +4,7 @@ ghost use Rattle.model.specs.Tree.{none, path_ok, value_ok, core, one};
 ghost use Rattle.calls.specs.Reading.{path_now, act_of, call_of, acts_in};
 ghost use Rattle.calls.specs.Screening.{screened, LetIn};
 ghost use Rattle.tree.specs.Answers.{numbered};
-ghost use Rattle.service.specs.Service.{act_in_range, in_range};
+ghost use Rattle.service.specs.Service.{act_in_range, in_range, refusal_of};
 ghost use Rattle.service.specs.Asking.{AskedAs, Plain, IsTheAct, asked_call, told_at_once, not_let_in};
 
 use calls::reading::read_act;
@@ -46,6 +46,21 @@ impl From<NotLetIn> for AtOnce {
     fn from(why: NotLetIn) -> AtOnce {
         AtOnce::NotLetIn(why)
     }
+}
+
+impl From<AtOnce> for Refusal {
+    ghost from_gives = { λ why k. k ≡ refusal_of (told_at_once why) };
+
+    fn from(why: AtOnce) -> Refusal {
+        refusal_of(why.number())
+    }
+}
+
+// The refusal of a number; any other number is none of a write's.
+fn refusal_of(number: u8) -> Refusal
+    ensures { result ≡ refusal_of number }
+{
+    Refusal::try_from(number).unwrap_or(Refusal::Full)
 }
 
 // Is a path in range.

@@ -1,71 +1,61 @@
 -- A call that was done beside the tree that stands: what it leaves stands, and all else is as it was. Assumes nothing.
-use Rattle.std.proofs.Common.{◌≡◌, ℕ, List, IfSome, Some, None, Option, sym, refl, ap, ◌∙◌, subst}
+use Rattle.std.proofs.Common.{◌≡◌, ℕ, List, IfSome, Some, None, Option, Ok, Err, Result, sym, refl, ap, ◌∙◌, subst}
+use Rattle.std.specs.Result.{IsErrAnd}
 use Rattle.model.specs.Tree.{State, No}
 use Rattle.cells.specs.declared.draft.Size.{Size}
+use Rattle.cells.specs.Drafts.{drafting}
 use Rattle.calls.specs.Screening.{screened}
-use Rattle.service.specs.declared.outcome.Outcome.TheVariants as outcome
-use Rattle.service.specs.declared.writing.Written.{Written}
-use Rattle.service.specs.Service.{at_once, refusal_of, outcome_of}
-use Rattle.service.specs.Answering.{left_by}
+use Rattle.tree.specs.declared.refusal.Refusal.{Refusal}
+use Rattle.service.specs.declared.asking.AtOnce.{AtOnce}
+use Rattle.service.specs.Asking.{told_at_once}
+use Rattle.service.specs.Service.{Outcome, at_once, refusal_of, outcome_of}
+use Rattle.service.specs.Answering.{left_by, kept_of, next_of}
 use Rattle.service.proofs.Lawfulness.{at_once_lem}
 use Rattle.memory.specs.declared.lent.Memory.{Memory}
 use Rattle.memory.specs.declared.lent.Kept.{Kept}
-use Rattle.memory.specs.Keeps.{Stands, Turned, Unmoved, state_in}
-use Rattle.serving.specs.Doing.{WroteCall, DidCall, to_left, to_right}
+use Rattle.memory.specs.declared.lent.Side as lent
+use Rattle.memory.specs.declared.lent.Side.TheVariants as on
+use Rattle.memory.specs.Rooms.{other_side}
+use Rattle.memory.specs.Keeps.{Side, side_at, left_side, right_side, Stands, Turned, Unmoved, state_in, turned_to}
+use Rattle.serving.specs.Doing.{WroteCall, WroteBeside, DidCall, beside}
 
 -- what is answered at once leaves the tree as it is
-pub refused_at_once : (room : ℕ) (call : List ℕ) (s : State) (w : Written) (out ps : List ℕ) (k : ℕ) → at_once (screened call) ≡ Some (No 0 k) → w.outcome ≡ outcome.Refused (refusal_of k) → w.next ≡ None → WroteCall room call s w out ps
-refused_at_once room call s w out ps k e o n =
-    let r = at_once_lem room (screened call) s (No 0 k) e in
-    record {
-      outcome = o ∙ ap outcome_of (sym r.0);
-      state = ap (λ (z : Option Size). left_by z out ps s) n ∙ sym r.1;
-      stands = subst (λ (z : Option Size). IfSome z (λ z. Stands room (record { bytes = out; places = ps; size = z }))) (sym n) tt;
-    }
+refused_at_once : (room : ℕ) (call : List ℕ) (s : State) (out ps : List ℕ) (k : ℕ) (r : Refusal) → at_once (screened call) ≡ Some (No 0 k) → r ≡ refusal_of k → WroteCall room call s (Err r) out ps
+refused_at_once room call s out ps k r e o =
+    let told = at_once_lem room (screened call) s (No 0 k) e in
+    record { outcome = ap (λ (x : Refusal). Err x) o ∙ ap outcome_of (sym told.0); state = sym told.1; stands = tt }
+
+pub refused_as : (room : ℕ) (call : List ℕ) (s : State) (out ps : List ℕ) (why : AtOnce) (w : Result Size Refusal) → at_once (screened call) ≡ Some (No 0 (told_at_once why)) → IsErrAnd w (λ k. k ≡ refusal_of (told_at_once why)) → WroteCall room call s w out ps
+refused_as room call s out ps why (Ok z) e h = absurd h
+refused_as room call s out ps why (Err r) e h = refused_at_once room call s out ps (told_at_once why) r e h
 
 module _ (k : Kept) (m n : Memory) (u : Unmoved k m n) where
-  left_by_lem : (o : Option Size) → state_in (to_left o k) n ≡ left_by o n.left.now n.left_places.now (state_in k m)
-  left_by_lem None = u.state
-  left_by_lem (Some z) = refl
+  -- the room beside, with a tree of this size
+  abbrev side_with : Size → lent.Side → Side
+  side_with z s = side_at s (record { bytes = n.left.bytes.now; places = n.left.places.now; size = z }) (record { bytes = n.right.bytes.now; places = n.right.places.now; size = z })
 
-  right_by : (o : Option Size) → state_in (to_right o k) n ≡ left_by o n.right.now n.right_places.now (state_in k m)
-  right_by None = u.state
-  right_by (Some z) = refl
+  resized : (z : Size) (s : lent.Side) → side_with z s ≡ record { bytes = (side_at s (left_side k n) (right_side k n)).bytes; places = (side_at s (left_side k n) (right_side k n)).places; size = z }
+  resized z on.Left = refl
+  resized z on.Right = refl
 
-  turned_left : (o : Option Size) → IfSome o (λ z. Stands k.room (record { bytes = n.left.now; places = n.left_places.now; size = z })) → Turned k m (to_left o k) n
-  turned_left None t = record { beside = record { room = refl; slot = refl; outcomes = refl; replied = refl }; calls = u.calls; replies = u.replies; sound = u.sound }
-  turned_left (Some z) t =
+  turned_state : (o : Option Size) → state_in (turned_to o k) n ≡ left_by o (beside k n).bytes (beside k n).places (state_in k m)
+  turned_state None = u.state
+  turned_state (Some z) = ap (λ (s : Side). drafting s.bytes s.places s.size) (resized z (other_side k.stands))
+
+  turned_on : (o : Option Size) → IfSome o (λ z. Stands k.room (record { bytes = (beside k n).bytes; places = (beside k n).places; size = z })) → Turned k m (turned_to o k) n
+  turned_on None t = record { beside = record { room = refl; slot = refl; outcomes = refl; replied = refl }; calls = u.calls; replies = u.replies; sound = u.sound }
+  turned_on (Some z) t =
       let s = u.sound in
       record {
         beside = record { room = refl; slot = refl; outcomes = refl; replied = refl };
         calls = record { waiting = u.calls.waiting; queued = u.calls.queued; slots = u.calls.slots; first = refl; count = refl };
         replies = u.replies;
-        sound = record { left = s.left; right = s.right; stands = t; slots = s.slots; first = s.first; count = s.count; answering = s.answering; replied = s.replied };
+        sound = record { left = s.left; right = s.right; stands = subst (Stands k.room) (sym (resized z (other_side k.stands))) t; slots = s.slots; first = s.first; count = s.count; answering = s.answering; replied = s.replied };
       }
 
-  turned_right : (o : Option Size) → IfSome o (λ z. Stands k.room (record { bytes = n.right.now; places = n.right_places.now; size = z })) → Turned k m (to_right o k) n
-  turned_right None t = record { beside = record { room = refl; slot = refl; outcomes = refl; replied = refl }; calls = u.calls; replies = u.replies; sound = u.sound }
-  turned_right (Some z) t =
-      let s = u.sound in
-      record {
-        beside = record { room = refl; slot = refl; outcomes = refl; replied = refl };
-        calls = record { waiting = u.calls.waiting; queued = u.calls.queued; slots = u.calls.slots; first = refl; count = refl };
-        replies = u.replies;
-        sound = record { left = s.left; right = s.right; stands = t; slots = s.slots; first = s.first; count = s.count; answering = s.answering; replied = s.replied };
-      }
+  pub did : (call : List ℕ) (w : Result Size Refusal) → WroteBeside k m call w n → DidCall k m call (record { kept = turned_to (next_of w) k; outcome = kept_of w }) n
+  did call w d = record { state = turned_state (next_of w) ∙ d.state; outcome = d.outcome; turned = turned_on (next_of w) d.stands; before = u }
 
-  went_left : (call : List ℕ) (w : Written) → WroteCall k.room call (state_in k m) w n.left.now n.left_places.now → DidCall k m call (record { kept = to_left w.next k; outcome = w.outcome }) n
-  went_left call w d = record { state = left_by_lem w.next ∙ d.state; outcome = d.outcome; turned = turned_left w.next d.stands; before = u }
-
-  went_right : (call : List ℕ) (w : Written) → WroteCall k.room call (state_in k m) w n.right.now n.right_places.now → DidCall k m call (record { kept = to_right w.next k; outcome = w.outcome }) n
-  went_right call w d = record { state = right_by w.next ∙ d.state; outcome = d.outcome; turned = turned_right w.next d.stands; before = u }
-
--- the same, of what was read from memory
-pub wrote_as : (room : ℕ) (call cs : List ℕ) (s t : State) (w : Written) (out ps : List ℕ) → call ≡ cs → s ≡ t → WroteCall room call s w out ps → WroteCall room cs t w out ps
-wrote_as room call cs s t w out ps p q d = subst (λ (x : List ℕ). WroteCall room x t w out ps) p (subst (λ (y : State). WroteCall room call y w out ps) q d)
-
-pub did_left : (k : Kept) (m n : Memory) (r : Kept) (call : List ℕ) (w : Written) → Unmoved k m n → r ≡ to_left w.next k → WroteCall k.room call (state_in k m) w n.left.now n.left_places.now → DidCall k m call (record { kept = r; outcome = w.outcome }) n
-did_left k m n r call w u e d = subst (λ (x : Kept). DidCall k m call (record { kept = x; outcome = w.outcome }) n) (sym e) (went_left k m n u call w d)
-
-pub did_right : (k : Kept) (m n : Memory) (r : Kept) (call : List ℕ) (w : Written) → Unmoved k m n → r ≡ to_right w.next k → WroteCall k.room call (state_in k m) w n.right.now n.right_places.now → DidCall k m call (record { kept = r; outcome = w.outcome }) n
-did_right k m n r call w u e d = subst (λ (x : Kept). DidCall k m call (record { kept = x; outcome = w.outcome }) n) (sym e) (went_right k m n u call w d)
+-- the same, of what the code hands back
+pub did_as : (k : Kept) (m n : Memory) (r : Kept) (o : Outcome) (call : List ℕ) (w : Result Size Refusal) → Unmoved k m n → r ≡ turned_to (next_of w) k → o ≡ kept_of w → WroteBeside k m call w n → DidCall k m call (record { kept = r; outcome = o }) n
+did_as k m n r o call w u e f d = subst (λ (x : Kept). DidCall k m call (record { kept = x; outcome = o }) n) (sym e) (subst (λ (y : Outcome). DidCall k m call (record { kept = turned_to (next_of w) k; outcome = y }) n) (sym f) (did k m n u call w d))

@@ -7,8 +7,7 @@ use Rattle.std.proofs.lemmas.List.{drop_at}
 use Rattle.model.specs.Tree.{State, Reply}
 use Rattle.calls.specs.Format.{encode_reply}
 use Rattle.calls.specs.Screening.{Screen, screened}
-use Rattle.service.specs.declared.outcome.Outcome.{Outcome}
-use Rattle.service.specs.Service.{reply_to, looks, say_to}
+use Rattle.service.specs.Service.{Outcome, reply_to, looks, say_to}
 use Rattle.service.specs.Answering.{Says}
 use Rattle.serving.specs.Replying.{reply_from, SaidAs}
 
@@ -23,9 +22,6 @@ reply_as room sc s o = cond (looks sc) (Some (encode_reply (reply_to room sc s))
 reply_as_lem : (room : ℕ) (call : List ℕ) (s : State) (o : Option Outcome) → reply_from room call s o ≡ reply_as room (screened call) s o
 reply_as_lem room call s None = refl
 reply_as_lem room call s (Some k) = refl
-
-pub nothing_said : (room : ℕ) (call : List ℕ) (s : State) (o : Option Outcome) (sc : Screen) → screened call ≡ sc → reply_as room sc s o ≡ None → reply_from room call s o ≡ None
-nothing_said room call s o sc is e = reply_as_lem room call s o ∙ (ap (λ (x : Screen). reply_as room x s o) is ∙ e)
 
 pub said : (room : ℕ) (call : List ℕ) (s : State) (o : Option Outcome) (out : List ℕ) (n : ℕ) (sc : Screen) (r : Reply) → screened call ≡ sc → reply_as room sc s o ≡ Some (encode_reply r) → Says r out n → SaidAs (reply_from room call s o) out (Some n)
 said room call s o out n sc r is e d =

@@ -2,8 +2,7 @@
 use Rattle.std.specs.Prelude.{◌≡◌, ℕ, ◌+◌, ◌≤◌, cond, List, length, take, Some, None, Option, slice_index_or}
 use Rattle.std.specs.List.{between}
 use Rattle.model.specs.Tree.{State}
-use Rattle.service.specs.declared.outcome.Outcome.{Outcome}
-use Rattle.service.specs.Service.{lines}
+use Rattle.service.specs.Service.{Outcome, lines}
 use Rattle.agreement.specs.Machine.{Mind, reply_to, say_kept}
 use Rattle.memory.specs.declared.lent.Memory.{Memory}
 use Rattle.memory.specs.declared.lent.Kept.{Kept}

@@ -30,16 +30,11 @@ fn say(
     requires small { length out.old < 4294967296 }
     ensures { SaidAs (reply_from room call.now (state_of tree.entry.bytes.now tree.entry.places.now) outcome) out.new result }
 {
-    match ask(call) {
-        Asked::AtOnce(_) => None,
+    let asked = ask(call).ok()?;
+    match asked {
         Asked::Look(path) => Some(say_look(tree, path, out)),
         Asked::Kids(path) => Some(say_kids(tree, path, out)),
-        Asked::Write(act) => {
-            match outcome {
-                None => None,
-                Some(done) => Some(say_write(act, done, out)),
-            }
-        }
+        Asked::Write(act) => Some(say_write(act, outcome?, out)),
     }
 }
 
@@ -62,10 +57,7 @@ fn say_behind(
 {
     let end = at + room as usize + 65581;
     let part = &mut replies[at..end];
-    let Some(n) = say(tree, room, call, outcome, part) else {
-        return None;
-    };
-    Some(at + n)
+    Some(at + say(tree, room, call, outcome, part)?)
 }
 
 // Answers the call in a slot behind the answers of this turn: from the tree that stands if it only looks, else from what was kept of it; nothing is said where nothing was kept.
@@ -87,10 +79,7 @@ pub fn answer(
     let call = call_at(kept, memory, slot);
     let said = say_behind(from, kept.room, call, outcome, kept.replied, replies);
     memory.replies = replies;
-    let Some(end) = said else {
-        return None;
-    };
-    kept.replied = end;
+    kept.replied = said?;
     Some(kept)
 }
 

@@ -1,20 +1,20 @@
 // Doing a call that lies in a slot.
-ghost use Rattle.std.specs.Prelude.{◌≡◌, ◌<◌, false, None};
+ghost use Rattle.std.specs.Prelude.{◌≡◌, ◌<◌, false};
 ghost use Rattle.cells.specs.Layout.{Holds, state_of};
 ghost use Rattle.cells.specs.Fits.{Fits, Calm, Suits};
 ghost use Rattle.calls.specs.Screening.{screened};
-ghost use Rattle.service.specs.Service.{looks, refusal_of};
-ghost use Rattle.memory.specs.Keeps.{slot_at, state_in, Sound};
-ghost use Rattle.serving.specs.Doing.{to_left, to_right, WroteCall, DidCall};
+ghost use Rattle.service.specs.Service.{looks};
+ghost use Rattle.memory.specs.Keeps.{slot_at, state_in, Sound, Unmoved};
+ghost use Rattle.serving.specs.Doing.{WroteCall, WroteBeside, DidCall};
 
 use cells::draft::Size;
 use cells::held::Tree;
-use memory::lent::{Kept, Memory};
-use memory::trees::tree;
+use doing::do_one;
+use memory::lent::{Kept, Memory, Side, TreeRoom};
+use memory::trees::{tree, turned};
 use memory::waiting::call_at;
 use service::asking::{Asked, ask};
 use service::outcome::Outcome;
-use service::writing::{Written, write};
 use tree::refusal::Refusal;
 
 // What is kept after a call was done, and what is kept of the call.
@@ -24,36 +24,14 @@ pub struct Did {
     pub outcome: Outcome,
 }
 
-// The refusal of a number.
-fn refusal_of(number: u8) -> Refusal
-    ensures { result ≡ refusal_of number }
-{
-    match number {
-        1 => Refusal::OutOfRange,
-        2 => Refusal::NotThere,
-        3 => Refusal::AlreadyThere,
-        4 => Refusal::OtherVersion,
-        5 => Refusal::HasKids,
-        6 => Refusal::NoSession,
-        7 => Refusal::UnderSession,
-        8 => Refusal::UsedUp,
-        _ => Refusal::Full,
-    }
-}
-
-// Nothing is written: the call is refused by a number.
-fn refused(number: u8) -> Written
-    ensures outcome { result.outcome ≡ Outcome.Refused (refusal_of number) }
-    ensures next { result.next ≡ None }
-{
-    Written {
-        outcome: Outcome::Refused(refusal_of(number)),
-        next: None,
-    }
-}
-
 // Does a call that writes, beside the tree that stands.
-fn write_call(tree: Tree, room: u64, call: &[u8], out: &mut [u8], places: &mut [u32]) -> Written
+fn write_call(
+    tree: Tree,
+    room: u64,
+    call: &[u8],
+    out: &mut [u8],
+    places: &mut [u32],
+) -> Result<Size, Refusal>
     requires holds { Holds tree.bytes.now tree.places.now }
     requires fits { Fits room (state_of tree.bytes.now tree.places.now) }
     requires calm { Calm (state_of tree.bytes.now tree.places.now) }
@@ -61,36 +39,49 @@ fn write_call(tree: Tree, room: u64, call: &[u8], out: &mut [u8], places: &mut [
     requires writes { looks (screened call.now) ≡ false }
     ensures { WroteCall room call.now (state_of tree.entry.bytes.now tree.entry.places.now) result out.new places.new }
 {
-    match ask(call) {
-        Asked::AtOnce(number) => refused(number),
-        Asked::Look(_) => refused(1),
-        Asked::Kids(_) => refused(1),
-        Asked::Write(act) => write(tree, room, act, out, places),
+    let asked = ask(call)?;
+    match asked {
+        Asked::Look(_) | Asked::Kids(_) => unreachable!(),
+        Asked::Write(act) => do_one(tree, room, act, out, places),
     }
 }
 
-// The tree that was written to the left stands, if one was.
-fn to_left(mut kept: Kept, next: Option<Size>) -> Kept
-    ensures { result ≡ to_left next kept }
-{
-    let Some(size) = next else {
-        return kept;
-    };
-    kept.left = size;
-    kept.second = false;
-    kept
+// A room of no bytes, which stands in while another is taken out.
+fn no_room<'b, 'p>() -> TreeRoom<'b, 'p> {
+    TreeRoom {
+        bytes: &mut [],
+        places: &mut [],
+    }
 }
 
-// The tree that was written to the right stands, if one was.
-fn to_right(mut kept: Kept, next: Option<Size>) -> Kept
-    ensures { result ≡ to_right next kept }
+// Does the write that lies in a slot, into the room beside the tree that stands.
+fn write_beside(kept: Kept, memory: &mut Memory, slot: usize) -> Result<Size, Refusal>
+    requires sound { Sound kept memory.old }
+    requires there { slot < 15 }
+    requires calm { Calm (state_in kept memory.old) }
+    requires writes { looks (screened (slot_at kept memory.old slot)) ≡ false }
+    ensures wrote { WroteBeside kept memory.old (slot_at kept memory.old slot) result memory.new }
+    ensures before { Unmoved kept memory.old memory.new }
 {
-    let Some(size) = next else {
-        return kept;
-    };
-    kept.right = size;
-    kept.second = true;
-    kept
+    // kept: one call may be lent one field of what is behind a &mut: so the room is taken out, and put back
+    match kept.stands {
+        Side::Left => {
+            let TreeRoom { bytes, places } = std::mem::replace(&mut memory.right, no_room());
+            let last = tree(kept, memory);
+            let call = call_at(kept, memory, slot);
+            let written = write_call(last, kept.room, call, bytes, places);
+            memory.right = TreeRoom { bytes, places };
+            written
+        }
+        Side::Right => {
+            let TreeRoom { bytes, places } = std::mem::replace(&mut memory.left, no_room());
+            let last = tree(kept, memory);
+            let call = call_at(kept, memory, slot);
+            let written = write_call(last, kept.room, call, bytes, places);
+            memory.left = TreeRoom { bytes, places };
+            written
+        }
+    }
 }
 
 // Does the write that lies in a slot: the tree that it leaves stands from now on, and the one before still lies beside it. What is refused leaves the tree as it is.
@@ -101,30 +92,9 @@ pub fn do_call(kept: Kept, memory: &mut Memory, slot: usize) -> Did
     requires writes { looks (screened (slot_at kept memory.old slot)) ≡ false }
     ensures { DidCall kept memory.old (slot_at kept memory.old slot) result memory.new }
 {
-    if kept.second {
-        let out = std::mem::replace(&mut memory.left, &mut []);
-        let places = std::mem::replace(&mut memory.left_places, &mut []);
-        let last = tree(kept, memory);
-        let call = call_at(kept, memory, slot);
-        let written = write_call(last, kept.room, call, out, places);
-        memory.left = out;
-        memory.left_places = places;
-        let kept = to_left(kept, written.next);
-        return Did {
-            kept,
-            outcome: written.outcome,
-        };
-    }
-    let out = std::mem::replace(&mut memory.right, &mut []);
-    let places = std::mem::replace(&mut memory.right_places, &mut []);
-    let last = tree(kept, memory);
-    let call = call_at(kept, memory, slot);
-    let written = write_call(last, kept.room, call, out, places);
-    memory.right = out;
-    memory.right_places = places;
-    let kept = to_right(kept, written.next);
+    let written = write_beside(kept, memory, slot);
     Did {
-        kept,
-        outcome: written.outcome,
+        kept: turned(kept, written.ok()),
+        outcome: written.map(|_| ()),
     }
 }

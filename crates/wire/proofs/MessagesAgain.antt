@@ -1,14 +1,12 @@
 -- A message that is written is read again as that message: each reader at what its writer wrote. Assumes nothing.
-use Rattle.std.proofs.Common.{◌≡◌, ℕ, zero, suc, ◌<◌, Bool, true, cond, ltb, List, [], ◌∷◌, ◌++◌, length, get_or, Some, None, Option, refl, ap, ◌∙◌, append_assoc, arith}
+use Rattle.std.proofs.Common.{◌≡◌, ℕ, zero, suc, ◌<◌, Bool, true, cond, ltb, List, [], ◌∷◌, ◌++◌, length, get_or, Some, None, Option, refl, ap, ◌∙◌, append_assoc, arith, Ok, Err}
 use Rattle.std.proofs.lemmas.Bool.{lt-ltb}
 use Rattle.lent_bytes.specs.Numbers.{be8}
 use Rattle.calls.specs.Format.{and_then, byte_at, number_at, flag_at, flag_written, wholly}
 use Rattle.calls.proofs.Again.{number_again, flag_again, onward, wholly_again}
 use Rattle.tree.specs.declared.refusal.Refusal.TheVariants.{OutOfRange, NotThere, AlreadyThere, OtherVersion, HasKids, NoSession, UnderSession, UsedUp, Full}
 use Rattle.content.specs.Content.{tree_at}
-use Rattle.service.specs.declared.outcome.Outcome.{Outcome}
-use Rattle.service.specs.declared.outcome.Outcome.TheVariants as outcome
-use Rattle.service.specs.Service.{lines}
+use Rattle.service.specs.Service.{Outcome, lines}
 use Rattle.agreement.specs.declared.View.{View}
 use Rattle.agreement.specs.declared.ProposalId.{ProposalId}
 use Rattle.agreement.specs.declared.Place.{Place}
@@ -51,16 +49,16 @@ id_again all d ys f =
 -- SEATS
 outcome_again : (k : Option Outcome) (ys : List ℕ) → outcome_at (outcome_byte k ∷ ys) ≡ Some (k, ys)
 outcome_again None ys = refl
-outcome_again (Some outcome.Done) ys = refl
-outcome_again (Some (outcome.Refused OutOfRange)) ys = refl
-outcome_again (Some (outcome.Refused NotThere)) ys = refl
-outcome_again (Some (outcome.Refused AlreadyThere)) ys = refl
-outcome_again (Some (outcome.Refused OtherVersion)) ys = refl
-outcome_again (Some (outcome.Refused HasKids)) ys = refl
-outcome_again (Some (outcome.Refused NoSession)) ys = refl
-outcome_again (Some (outcome.Refused UnderSession)) ys = refl
-outcome_again (Some (outcome.Refused UsedUp)) ys = refl
-outcome_again (Some (outcome.Refused Full)) ys = refl
+outcome_again (Some (Ok u)) ys = refl
+outcome_again (Some (Err OutOfRange)) ys = refl
+outcome_again (Some (Err NotThere)) ys = refl
+outcome_again (Some (Err AlreadyThere)) ys = refl
+outcome_again (Some (Err OtherVersion)) ys = refl
+outcome_again (Some (Err HasKids)) ys = refl
+outcome_again (Some (Err NoSession)) ys = refl
+outcome_again (Some (Err UnderSession)) ys = refl
+outcome_again (Some (Err UsedUp)) ys = refl
+outcome_again (Some (Err Full)) ys = refl
 
 place_again : (q : Place) (ys : List ℕ) → FitPlace q → place_at (be8 q.incarnation ++ (be8 q.no ++ ys)) ≡ Some (q, ys)
 place_again q ys f =

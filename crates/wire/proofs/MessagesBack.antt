@@ -1,5 +1,5 @@
 -- Bytes that are read as a message are those that it is written as: each reader takes just what its writer writes. Assumes nothing.
-use Rattle.std.proofs.Common.{◌≡◌, ℕ, zero, suc, ◌+◌, Bool, true, false, cond, eqb, ltb, List, [], ◌∷◌, ◌++◌, Some, None, Option, sym, refl, ap, ◌∙◌, subst, ⊎_elim, append_assoc, append-nil}
+use Rattle.std.proofs.Common.{◌≡◌, ℕ, zero, suc, ◌+◌, Bool, true, false, cond, eqb, ltb, List, [], ◌∷◌, ◌++◌, Some, None, Option, sym, refl, ap, ◌∙◌, subst, ⊎_elim, append_assoc, append-nil, Ok, Err}
 use Rattle.std.proofs.lemmas.Bool.{eqb-true}
 use Rattle.model.specs.Tree.{State}
 use Rattle.lent_bytes.specs.Numbers.{be8}
@@ -13,9 +13,7 @@ use Rattle.tree.specs.Answers.{reason}
 use Rattle.scan.specs.Scans.{meaning}
 use Rattle.content.specs.Content.{is_tree, tree_at}
 use Rattle.content.proofs.Decided.{tree_decided}
-use Rattle.service.specs.declared.outcome.Outcome.{Outcome}
-use Rattle.service.specs.declared.outcome.Outcome.TheVariants as outcome
-use Rattle.service.specs.Service.{lines}
+use Rattle.service.specs.Service.{Outcome, lines}
 use Rattle.agreement.specs.declared.Place.{Place}
 use Rattle.agreement.specs.Content.{Proposal}
 use Rattle.agreement.specs.Machine.{Msg, Prepare, Promise, Propose, Alive, Accepted, Join, Forward}
@@ -92,7 +90,7 @@ one_of : {A : Type 0} (w : A → ℕ) (b n : ℕ) (x : A) (others : Option A) (k
 one_of w b n x others k is more e =
     ⊎_elim (λ t. read_as x k (λ y. w y ≡ b) t.1 (is ∙ sym (eqb-true b n t.0))) (λ f. more f.1) (cond_some (eqb b n) (Some x) others k e)
 
-refused_back : (b : ℕ) (k : Refusal) → refused_by b ≡ Some k → 1 + reason k ≡ b
+pub refused_back : (b : ℕ) (k : Refusal) → refused_by b ≡ Some k → 1 + reason k ≡ b
 refused_back b k =
     let w : Refusal → ℕ = λ r. 1 + reason r in
     one_of w b 2 OutOfRange _ k refl (one_of w b 3 NotThere _ k refl (one_of w b 4 AlreadyThere _ k refl (one_of w b 5 OtherVersion _ k refl (one_of w b 6 HasKids _ k refl
@@ -100,8 +98,8 @@ refused_back b k =
 
 outcome_back : (b : ℕ) (k : Option Outcome) → outcome_by b ≡ Some k → outcome_byte k ≡ b
 outcome_back b k =
-    one_of outcome_byte b 0 None _ k refl (one_of outcome_byte b 1 (Some outcome.Done) _ k refl
-    (λ e. let r = then_some (refused_by b) (λ k. Some (Some (outcome.Refused k))) k e in read_as (Some (outcome.Refused r.0)) k (λ y. outcome_byte y ≡ b) r.2 (refused_back b r.0 r.1)))
+    one_of outcome_byte b 0 None _ k refl (one_of outcome_byte b 1 (Some (Ok tt)) _ k refl
+    (λ e. let r = then_some (refused_by b) (λ k. Some (Some (Err k))) k e in read_as (Some (Err r.0)) k (λ y. outcome_byte y ≡ b) r.2 (refused_back b r.0 r.1)))
 
 outcome_takes : Takes outcome_at (λ k. outcome_byte k ∷ [])
 unfolding Takes

@@ -5,7 +5,7 @@
 --   proposal: id, seven seats, the tree's bytes to the end
 --   kinds: 1 prepare: view;  2 promise: view, incarnation (8), proposal;  3 propose: chosen (1: 0 or 1), proposal;  4 alive: id, chosen (1), incarnation (8)
 --          5 accepted: id, incarnation (8);  6 join: incarnation, replaced incarnation (8 each);  7 forward: incarnation, number, client's number (8 each), the call's bytes to the end
-use Rattle.std.specs.Prelude.{ℕ, zero, suc, ◌+◌, cond, List, [], ◌∷◌, ◌++◌, Some, None, Option, ◌==◌, nat_lt}
+use Rattle.std.specs.Prelude.{ℕ, zero, suc, ◌+◌, cond, List, [], ◌∷◌, ◌++◌, Some, None, Option, Ok, Err, ◌==◌, nat_lt}
 use Rattle.model.specs.Tree.{State}
 use Rattle.lent_bytes.specs.Numbers.{be8}
 use Rattle.calls.specs.Format.{and_then, byte_at, number_at, flag_at, flag_written, wholly}
@@ -13,9 +13,7 @@ use Rattle.tree.specs.declared.refusal.Refusal.{Refusal}
 use Rattle.tree.specs.declared.refusal.Refusal.TheVariants.{OutOfRange, NotThere, AlreadyThere, OtherVersion, HasKids, NoSession, UnderSession, UsedUp, Full}
 use Rattle.tree.specs.Answers.{reason}
 use Rattle.content.specs.Content.{tree_at}
-use Rattle.service.specs.declared.outcome.Outcome.{Outcome}
-use Rattle.service.specs.declared.outcome.Outcome.TheVariants as outcome
-use Rattle.service.specs.Service.{lines}
+use Rattle.service.specs.Service.{Outcome, lines}
 use Rattle.agreement.specs.declared.View.{View}
 use Rattle.agreement.specs.declared.ProposalId.{ProposalId}
 use Rattle.agreement.specs.declared.Place.{Place}
@@ -36,8 +34,8 @@ id_bytes d = view_bytes d.view ++ be8 d.seq
 
 abbrev pub outcome_byte : Option Outcome → ℕ
 outcome_byte None = 0
-outcome_byte (Some outcome.Done) = 1
-outcome_byte (Some (outcome.Refused k)) = 1 + reason k
+outcome_byte (Some (Ok u)) = 1
+outcome_byte (Some (Err k)) = 1 + reason k
 
 -- the place of a replica, and the outcome of its last write
 abbrev pub seat_bytes : Place → Option Outcome → List ℕ
@@ -83,7 +81,7 @@ refused_by b =
     (cond (b == 7) (Some NoSession) (cond (b == 8) (Some UnderSession) (cond (b == 9) (Some UsedUp) (cond (b == 10) (Some Full) None))))))))
 
 abbrev pub outcome_by : ℕ → Option (Option Outcome)
-outcome_by b = cond (b == 0) (Some None) (cond (b == 1) (Some (Some outcome.Done)) (and_then (refused_by b) (λ k. Some (Some (outcome.Refused k)))))
+outcome_by b = cond (b == 0) (Some None) (cond (b == 1) (Some (Some (Ok tt))) (and_then (refused_by b) (λ k. Some (Some (Err k)))))
 
 abbrev pub outcome_at : List ℕ → Option (Option Outcome × List ℕ)
 outcome_at bs = and_then (byte_at bs) (λ b. and_then (outcome_by b.0) (λ k. Some (k, b.1)))

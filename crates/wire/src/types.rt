@@ -1,8 +1,64 @@
 // Messages of replicas, with the trees and calls that they carry as parts of bytes.
+ghost use Rattle.std.specs.Prelude.{◌≡◌};
+ghost use Rattle.wire.specs.Kinds.{kind_number, IsKind};
+
 use agreement::{Joining, Place, ProposalId, View};
 use service::outcome::Outcome;
 
+// The kinds of messages.
+#[derive(Clone, Copy, PartialEq, Eq)]
+pub enum Kind {
+    Prepare,
+    Promise,
+    Propose,
+    Alive,
+    Accepted,
+    Join,
+    Forward,
+}
+
+impl Kind {
+    // The byte that says which kind it is.
+    pub fn number(self) -> u8
+        ensures { result ≡ kind_number self }
+    {
+        match self {
+            Kind::Prepare => 1,
+            Kind::Promise => 2,
+            Kind::Propose => 3,
+            Kind::Alive => 4,
+            Kind::Accepted => 5,
+            Kind::Join => 6,
+            Kind::Forward => 7,
+        }
+    }
+}
+
+// A byte that is no kind's.
+#[derive(Clone, Copy, PartialEq, Eq)]
+pub struct NoKind(pub u8);
+
+impl TryFrom<u8> for Kind {
+    type Error = NoKind;
+
+    ghost try_from_gives = { IsKind };
+
+    fn try_from(number: u8) -> Result<Kind, NoKind> {
+        match number {
+            1 => Ok(Kind::Prepare),
+            2 => Ok(Kind::Promise),
+            3 => Ok(Kind::Propose),
+            4 => Ok(Kind::Alive),
+            5 => Ok(Kind::Accepted),
+            6 => Ok(Kind::Join),
+            7 => Ok(Kind::Forward),
+            _ => Err(NoKind(number)),
+        }
+    }
+}
+
 // For each replica its place, and what is kept of its last write.
+// kept: the machine's definitions have places and outcomes as two lists side by side, and agreement's places are an array.
 #[derive(Clone, Copy)]
 pub struct Seats {
     pub places: [Place; 7],

@@ -1,24 +1,23 @@
-use Rattle.std.proofs.Common.{◌≡◌, length, sym, arith}
+use Rattle.std.proofs.Common.{◌≡◌, ◌+◌, [], ◌∷◌, ◌++◌, length, arith, rules}
+use Rattle.std.specs.Slice.Iter.{iter_rest}
+use Rattle.std.specs.Iterator.Adapters.{zip_first, zip_second}
+use Rattle.std.proofs.lemmas.List.{length_push}
+use Rattle.std.proofs.lemmas.Slice.Zip.{zip_turn}
 use Rattle.lent_bytes.proofs.Writes.{and_then, the_same}
-use Rattle.encode.proofs.Seating.{seats_begun, seats_pushed, seats_whole}
+use Rattle.encode.proofs.Seating.{seats_begun, seats_more}
 use Rattle.encode.proofs.append_seats.Goals as goal
 
-pub loop-i-init : goal.loop-i-init
-loop-i-init c = (seats_begun c.args.at c.args.out.now, omega arith)
+pub loop-place-init : goal.loop-place-init
+loop-place-init c = (seats_begun c.args.at c.args.out.now, omega arith)
 
-pub append_seat-end-requires : goal.append_seat-end-requires
-append_seat-end-requires c = omega (arith, c.loop-i.invariant.1)
-
-pub loop-i-preserved : goal.loop-i-preserved
-loop-i-preserved c =
-    let l = c.loop-i in
-    let p : length c.args.seats.places ≡ 7 = omega arith in
-    let k : length c.args.seats.outcomes ≡ 7 = omega arith in
-    (the_same _ _ (sym (seats_pushed l.i c.args.seats.places c.args.seats.outcomes _ _ (omega arith) (omega arith))) (and_then l.invariant.0 c.append_seat-end.ensures.added), omega (arith, l.invariant.1, c.append_seat-end.ensures.end))
-
-pub returns : goal.returns
-returns c =
-    let l = c.loop-i in
-    let p : length c.args.seats.places ≡ 7 = omega arith in
-    let k : length c.args.seats.outcomes ≡ 7 = omega arith in
-    record { end = omega (arith, l.invariant.1); added = the_same _ _ (seats_whole l.i c.args.seats.places c.args.seats.outcomes (omega arith) (omega arith)) l.invariant.0 }
+pub loop-place-preserved : goal.loop-place-preserved
+loop-place-preserved c =
+    let l = c.loop-place in
+    let s = c.args.seats in
+    let first : iter_rest (zip_first c.into_iter-place-iterator.result) ≡ s.places = search rules in
+    let second : iter_rest (zip_second c.into_iter-place-iterator.result) ≡ s.outcomes = search rules in
+    let turn = zip_turn s.places s.outcomes l.yielded c.into_iter-place-iterator.result l.place-iterator c.next.new.self c.next.result first second l.yielded_by (c.in-Some.place, c.in-Some.outcome) c.in-Some.is c.next.ensures.steps in
+    let more : length (l.yielded ++ (c.in-Some.place, c.in-Some.outcome) ∷ []) ≡ length l.yielded + 1 = length_push l.yielded (c.in-Some.place, c.in-Some.outcome) in (
+      the_same _ _ (seats_more (length l.yielded) _ s.places s.outcomes c.in-Some.place.now c.in-Some.outcome.now more turn.0 turn.1 turn.2 turn.3) (and_then l.invariant.0 c.append_seat-end.ensures.added),
+      omega (arith, l.invariant.1, c.append_seat-end.ensures.end, more),
+    )

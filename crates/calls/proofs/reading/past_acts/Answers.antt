@@ -1,4 +1,4 @@
-use Rattle.std.proofs.Common.{◌≡◌, ◌-◌, None, sym, ap, ◌∙◌, arith, rules}
+use Rattle.std.proofs.Common.{◌≡◌, None, sym, ap, ◌∙◌, arith, rules}
 use Rattle.model.specs.Tree.{Act}
 use Rattle.calls.specs.Format.{act_at, rest, past}
 use Rattle.calls.proofs.Many.{past_step, past_stop, past_end}

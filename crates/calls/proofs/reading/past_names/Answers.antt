@@ -1,4 +1,4 @@
-use Rattle.std.proofs.Common.{◌≡◌, ◌-◌, None, sym, ◌∙◌, arith, rules}
+use Rattle.std.proofs.Common.{◌≡◌, None, sym, ◌∙◌, arith, rules}
 use Rattle.calls.specs.Format.{name_at, past}
 use Rattle.calls.proofs.Many.{past_step, past_stop, past_end}
 use Rattle.calls.proofs.reading.past_names.Goals as goal

@@ -10,12 +10,12 @@ returns c =
     let m = c.args.memory.now in
     let t : c.suits.result ≡ true = search rules in
     let l : Lent c.args.room m = c.suits.ensures.0 t in
-    let a : length c.start_blank-left.new.out ≡ length m.left.now = search rules in
-    let b : length c.start_blank-left.new.places ≡ length m.left_places.now = search rules in
+    let a : length c.start_blank-size.new.out ≡ length m.left.bytes.now = search rules in
+    let b : length c.start_blank-size.new.places ≡ length m.left.places.now = search rules in
     let d : length c.clear.new.ends ≡ length m.ends.now = search rules in
     record {
       room = refl;
-      state = c.start_blank-left.ensures.state;
+      state = c.start_blank-size.ensures.state;
       outcomes = refl;
       waiting = λ room. ring_none _ 0;
       queued = λ room. queue_none room _;
@@ -23,9 +23,9 @@ returns c =
       count = refl;
       sound =
           record {
-            left = suits_long c.args.room m.left.now m.left_places.now _ _ l.left a b;
+            left = suits_long c.args.room m.left.bytes.now m.left.places.now _ _ l.left a b;
             right = l.right;
-            stands = blank_stands c.args.room c.start_blank-left.new.out c.start_blank-left.new.places c.start_blank-left.result c.start_blank-left.ensures.drafts c.start_blank-left.ensures.state;
+            stands = blank_stands c.args.room c.start_blank-size.new.out c.start_blank-size.new.places c.start_blank-size.result c.start_blank-size.ensures.drafts c.start_blank-size.ensures.state;
             slots = empty_slots m.calls.now m.ends.now c.clear.new.ends l.calls d c.clear.ensures;
             first = omega arith;
             count = omega arith;

@@ -1,8 +1,8 @@
-use Rattle.std.proofs.Common.{◌<◌, ◌≢◌, length, arith, get_or-set_other, get_or-set_same, below_more}
+use Rattle.std.proofs.Common.{◌≡◌, length, drop, refl, ◌∙◌, arith, rules}
+use Rattle.std.proofs.lemmas.List.{get_or_append_left}
 use Rattle.memory.proofs.beginning.clear.Goals as goal
 
-pub loop-i-preserved : goal.loop-i-preserved
-loop-i-preserved c =
-    below_more _ _
-    (λ k h. let ne : k ≢ c.loop-i.i = omega arith in rw get_or-set_other (c.loop-i.invariant k h))
-    (let lt : c.loop-i.i < length c.loop-i.ends = omega arith in rw get_or-set_same)
+pub returns : goal.returns
+returns c k h =
+    let long : length c.fill.new.self ≡ 15 = search rules in
+    get_or_append_left c.fill.new.self (drop 15 c.args.ends.now) 0 k (omega arith) ∙ c.fill.ensures.clones k 0 (omega (arith, c.fill.ensures.len, long)) refl

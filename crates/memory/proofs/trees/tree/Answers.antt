@@ -1,18 +1,15 @@
-use Rattle.std.proofs.Common.{◌≡◌, true, false, rules}
 use Rattle.memory.specs.Keeps.{standing, left_side, right_side}
 use Rattle.memory.proofs.Sides.{right_stands, left_stands, held_side}
 use Rattle.memory.proofs.trees.tree.Goals as goal
 
-pub returns-then-kept : goal.returns-then-kept
-returns-then-kept c =
+pub returns-in-Left : goal.returns-in-Left
+returns-in-Left c =
     let k = c.args.kept in
     let m = c.args.memory.now in
-    let e : k.second ≡ true = search rules in
-    held_side k.room (standing k m) (right_side k m) _ _ (right_stands k m e) c.requires c.front.ensures.bytes c.front.ensures.places
+    held_side k.room (standing k m) (left_side k m) _ _ (left_stands k m c.in-Left.is) c.requires c.front.ensures.bytes c.front.ensures.places
 
-pub returns : goal.returns
-returns c =
+pub returns-in-Right : goal.returns-in-Right
+returns-in-Right c =
     let k = c.args.kept in
     let m = c.args.memory.now in
-    let e : k.second ≡ false = search rules in
-    held_side k.room (standing k m) (left_side k m) _ _ (left_stands k m e) c.requires c.front-2.ensures.bytes c.front-2.ensures.places
+    held_side k.room (standing k m) (right_side k m) _ _ (right_stands k m c.in-Right.is) c.requires c.front-in-Right.ensures.bytes c.front-in-Right.ensures.places

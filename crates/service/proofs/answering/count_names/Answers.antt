@@ -1,5 +1,5 @@
 use Rattle.std.proofs.Common.{◌+◌, rules}
-use Rattle.service.proofs.Saying.{Counted, count_first, count_next, count_end, none_left, rest_counted}
+use Rattle.service.proofs.Saying.{count_first, count_next, count_end, none_left, rest_counted}
 use Rattle.service.proofs.answering.count_names.Goals as goal
 
 pub loop-n-init : goal.loop-n-init

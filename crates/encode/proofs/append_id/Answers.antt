@@ -1,9 +1,0 @@
-use Rattle.std.proofs.Common.{arith}
-use Rattle.lent_bytes.proofs.Writes.{and_then}
-use Rattle.encode.proofs.append_id.Goals as goal
-
-pub returns : goal.returns
-returns c = record {
-  end = omega (arith, c.append_view-a.ensures.end, c.append_u64.ensures.end);
-  added = and_then c.append_view-a.ensures.added c.append_u64.ensures.added;
-}
