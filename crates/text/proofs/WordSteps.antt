@@ -13,17 +13,31 @@ found_at p xs i e = cond_both (ltb (position_or_len p xs) (length xs)) (Some (po
 pub found_none : (p : ℕ → Bool) (xs : List ℕ) → None ≡ position p xs → length xs ≤ position_or_len p xs
 found_none p xs e = grind (arith, nat_tests)
 
+-- what stands before the first one, and what stands from it on
+pub front_is : (p : ℕ → Bool) (front : List ℕ → List ℕ) → front [] ≡ [] → ((c : ℕ) (cs : List ℕ) → front (c ∷ cs) ≡ cond (p c) [] (c ∷ front cs)) →
+    (xs : List ℕ) → take (position_or_len p xs) xs ≡ front xs
+front_is p front none step [] = sym none
+front_is p front none step (c ∷ cs) = go (p c) (position_or_len p cs) (front_is p front none step cs) ∙ sym (step c cs)
+  where
+    go : (b : Bool) (n : ℕ) → take n cs ≡ front cs → take (cond (not b) (1 + n) 0) (c ∷ cs) ≡ cond b [] (c ∷ front cs)
+    go true n e = refl
+    go false n e = ap (λ (m : ℕ). take m (c ∷ cs)) (let one : 1 + n ≡ suc n = omega arith in one) ∙ ap (λ (ys : List ℕ). c ∷ ys) e
+
+pub back_is : (p : ℕ → Bool) (back : List ℕ → List ℕ) → back [] ≡ [] → ((c : ℕ) (cs : List ℕ) → back (c ∷ cs) ≡ cond (p c) (c ∷ cs) (back cs)) →
+    (xs : List ℕ) → drop (position_or_len p xs) xs ≡ back xs
+back_is p back none step [] = sym none
+back_is p back none step (c ∷ cs) = go (p c) (position_or_len p cs) (back_is p back none step cs) ∙ sym (step c cs)
+  where
+    go : (b : Bool) (n : ℕ) → drop n cs ≡ back cs → drop (cond (not b) (1 + n) 0) (c ∷ cs) ≡ cond b (c ∷ cs) (back cs)
+    go true n e = refl
+    go false n e = ap (λ (m : ℕ). drop m (c ∷ cs)) (let one : 1 + n ≡ suc n = omega arith in one) ∙ e
+
 abbrev pub space : ℕ → Bool
 space c = eqb c 32
 
 word_is : (xs : List ℕ) → take (position_or_len space xs) xs ≡ word_of xs
 unfolding word_of
-word_is [] = refl
-word_is (c ∷ cs) = go (space c) (position_or_len space cs) (word_is cs)
-  where
-    go : (b : Bool) (p : ℕ) → take p cs ≡ word_of cs → take (cond (not b) (1 + p) 0) (c ∷ cs) ≡ cond b [] (c ∷ word_of cs)
-    go true p e = refl
-    go false p e = ap (λ (n : ℕ). take n (c ∷ cs)) (let one : 1 + p ≡ suc p = omega arith in one) ∙ ap (λ (ys : List ℕ). c ∷ ys) e
+word_is = front_is space word_of refl (λ c cs. refl)
 
 rest_is : (xs : List ℕ) → drop (1 + position_or_len space xs) xs ≡ rest_of xs
 unfolding rest_of

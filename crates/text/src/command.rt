@@ -76,7 +76,7 @@ fn read_letter(text: &[u8], me: u8, all: u8) -> Result<Command<'_>, CommandFault
 }
 
 // Which replica a program is, of how many, and its incarnation.
-#[derive(Clone, Copy)]
+#[derive(Clone, Copy, Debug, PartialEq, Eq)]
 pub struct Place {
     pub me: u8,
     pub all: u8,

@@ -48,10 +48,6 @@ module _ {A : Type 0} (over : List ℕ → Bool) (one : List ℕ → Option (A �
       ∙ (ap (λ (o : Option (A × List ℕ)). before ys (and_then o (λ r. and_then (many_while over one (n - (i + 1)) r.1) (λ s. Some (r.0 ∷ s.0, s.1))))) w
       ∙ before_more ys x (many_while over one (n - (i + 1)) next)))
 
-pub many_start : {A : Type 0} (over : List ℕ → Bool) (one : List ℕ → Option (A × List ℕ)) (xs : List ℕ) (n : ℕ) →
-    many_while over one n xs ≡ before [] (many_while over one (n - 0) xs)
-many_start over one xs n = before_none (many_while over one n xs) ∙ ap (λ (k : ℕ). before [] (many_while over one k xs)) (let e : n ≡ n - 0 = omega arith in e)
-
 -- a loop that goes on until they are over: what is left, by no fewer steps than there are characters
 pub record IsLeft {A : Type 0} (over : List ℕ → Bool) (one : List ℕ → Option (A × List ℕ)) (said : Option (List A × List ℕ)) (ys : List A) (rest : List ℕ) : Type 0 where
   most : ℕ

@@ -5,18 +5,13 @@ use Rattle.std.proofs.lemmas.Iterator.Search.{position_from_yields_List}
 use Rattle.words.proofs.WordSteps.{ender, word_cut, word_whole}
 use Rattle.words.proofs.reading.cut_word.Goals as goal
 
-pub returns-in-Some-clause-word : goal.returns-in-Some-clause-word
-returns-in-Some-clause-word c =
-    c.split_at.ensures.front ∙ (word_cut c.args.text.now c.in-Some.i (position_from_yields_List ender _ _ _ c.in-Some.ensures.ran (YieldsList-from_slice _ c.iter.ensures.rest) (λ x b q k. search (rules, tests)))).0
+pub returns-in-Some : goal.returns-in-Some
+returns-in-Some c =
+    let cut =
+    word_cut c.args.text.now c.in-Some.i (position_from_yields_List ender _ _ _ c.in-Some.ensures.ran (YieldsList-from_slice _ c.iter.ensures.rest) (λ x b q k. search (rules, tests))) in
+    record { word = c.split_at.ensures.front ∙ cut.0; rest = c.split_at.ensures.back ∙ cut.1 }
 
-pub returns-in-Some-clause-rest : goal.returns-in-Some-clause-rest
-returns-in-Some-clause-rest c =
-    c.split_at.ensures.back ∙ (word_cut c.args.text.now c.in-Some.i (position_from_yields_List ender _ _ _ c.in-Some.ensures.ran (YieldsList-from_slice _ c.iter.ensures.rest) (λ x b q k. search (rules, tests)))).1
-
-pub returns-in-None-clause-word : goal.returns-in-None-clause-word
-returns-in-None-clause-word c =
-    (word_whole c.args.text.now (position_from_yields_List ender _ _ _ c.in-None.ensures.ran (YieldsList-from_slice _ c.iter.ensures.rest) (λ x b q k. search (rules, tests)))).0
-
-pub returns-in-None-clause-rest : goal.returns-in-None-clause-rest
-returns-in-None-clause-rest c =
-    (word_whole c.args.text.now (position_from_yields_List ender _ _ _ c.in-None.ensures.ran (YieldsList-from_slice _ c.iter.ensures.rest) (λ x b q k. search (rules, tests)))).1
+pub returns-in-None : goal.returns-in-None
+returns-in-None c =
+    let whole = word_whole c.args.text.now (position_from_yields_List ender _ _ _ c.in-None.ensures.ran (YieldsList-from_slice _ c.iter.ensures.rest) (λ x b q k. search (rules, tests))) in
+    record { word = whole.0; rest = whole.1 }
