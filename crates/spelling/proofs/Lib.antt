@@ -1,3 +1,4 @@
 -- Spelling one behind the other.
+pub mod Letters
 pub mod Loops
 pub mod Shapes
