@@ -13,11 +13,10 @@ use script::houses::{Forbidden, Houses};
 use script::incarnations::choose;
 use script::lines::{Command, Link};
 use script::network::{Letter, copies, part};
-use spelling::wording::push_call;
+use spelling::wording::InWords;
 use std::alloc::{AllocError, Global};
 use std::io;
 use std::io::Write;
-use text::decimal::push_decimal;
 use words::types::Call;
 
 // A house's answer to a call. Until there is a replica: a refusal, by 1 where the bytes are no call, else by 12.
@@ -46,11 +45,7 @@ fn play_call(rt: &HostRuntime, scene: &Scene, house: u8, call: &Call) -> anyhow:
         return Ok(scene.refuse(rt, fault)?);
     }
     let answer = ask(&bytes);
-    let mut line = Vec::new(heap);
-    push_decimal(heap, &mut line, house as u64)?;
-    line.extend_from_slice(b": ")?;
-    push_call(heap, &mut line, call)?;
-    line.extend_from_slice(b" -> ")?;
+    let mut line = format!(in heap; "{house}: {} -> ", InWords(call))?.into_bytes();
     if !push_answer(heap, &mut line, &answer)? {
         line.extend_from_slice(b"no answer")?;
     }
