@@ -1,10 +1,11 @@
 // Answers in words, from their bytes.
 #![tactic(auto)]
 
-ghost use Rattle.std.specs.Prelude.{IfOk};
+ghost use Rattle.std.specs.Prelude.{◌≡◌, IfOk};
+ghost use Rattle.std.specs.Option.{option_map};
 ghost use Rattle.std.specs.String.{string_bytes};
 ghost use Rattle.calls.specs.Format.{done_at, names_in, decode_reply};
-ghost use Rattle.replies.specs.Answers.{Spelled};
+ghost use Rattle.replies.specs.Answers.{reply_spelled};
 ghost use Rattle.replies.specs.Telling.{Telling};
 ghost use Rattle.replies.specs.ByShape.{AnswerSpelled};
 
@@ -57,21 +58,16 @@ fn tell(out: &mut String, bytes: &[u8]) -> Result<(), Untold>
     Ok(())
 }
 
-// Writes the answer in words behind what is there; false where the bytes are no answer, and then nothing is written.
-// What is written of a refusal, a session and an entry is told by the shape of the bytes too.
-// kept: bytes that are no answer are no failure here, and the caller says so in words of its own
-pub fn push_answer(heap: Global, out: &mut Vec<u8>, bytes: &[u8]) -> Result<bool, AllocError>
-    ensures as_read { IfOk result (λ b. Spelled (decode_reply bytes.now) b out.old.items out.new.items) }
-    ensures by_shape { AnswerSpelled bytes.now result out.old.items out.new.items }
+// The answer in words; none where the bytes are no answer.
+// The words of a refusal, a session and an entry are told by the shape of the bytes too.
+pub fn answer_in_words(heap: Global, bytes: &[u8]) -> Result<Option<String>, AllocError>
+    ensures as_read { IfOk result (λ text. option_map string_bytes text ≡ option_map reply_spelled (decode_reply bytes.now)) }
+    ensures by_shape { IfOk result (λ text. AnswerSpelled bytes.now (option_map string_bytes text)) }
 {
-    // apart first, since it is known only behind the last of what is read whether the bytes are an answer
     let mut text = String::new(heap);
     match tell(&mut text, bytes) {
-        Ok(()) => {
-            out.extend_from_slice(text.as_bytes())?;
-            Ok(true)
-        }
-        Err(Untold::NoAnswer) => Ok(false),
+        Ok(()) => Ok(Some(text)),
+        Err(Untold::NoAnswer) => Ok(None),
         Err(Untold::Memory) => Err(AllocError),
     }
 }

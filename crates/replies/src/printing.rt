@@ -40,8 +40,15 @@ impl fmt::Display for Entry<'_> {
     ghost output = { λ e. Some (entry_spelled e.value.now e.version e.made e.changed e.kids e.session) };
 
     fn fmt<W: fmt::Write>(&self, f: &mut fmt::Formatter<W>) -> fmt::Result {
-        write!(f, "entry {} version {}", Quoted(self.value), self.version)?;
-        write!(f, " made {} changed {}", self.made, self.changed)?;
-        write!(f, " kids {} session {}", self.kids, self.session)
+        write!(
+            f,
+            "entry {} version {} made {} changed {} kids {} session {}",
+            Quoted(self.value),
+            self.version,
+            self.made,
+            self.changed,
+            self.kids,
+            self.session,
+        )
     }
 }

@@ -18,13 +18,13 @@ fn is_plain(quoted: bool, c: u8) -> bool
 
 // A byte of a value or a name.
 #[derive(Clone, Copy)]
-struct Letter {
+struct Character {
     quoted: bool,
     byte: u8,
 }
 
-impl fmt::Display for Letter {
-    ghost output = { λ l. Some (char_spelled l.quoted l.byte) };
+impl fmt::Display for Character {
+    ghost output = { λ c. Some (char_spelled c.quoted c.byte) };
 
     fn fmt<W: fmt::Write>(&self, f: &mut fmt::Formatter<W>) -> fmt::Result {
         let byte = self.byte;
@@ -42,18 +42,20 @@ impl fmt::Display for Letter {
     }
 }
 
+// The bytes of a value or a name, one behind the other.
 #[derive(Clone, Copy)]
-struct Letters<'a> {
+struct Characters<'a> {
     quoted: bool,
     bytes: &'a [u8],
 }
 
-impl fmt::Display for Letters<'_> {
-    ghost output = { λ l. Some (chars_spelled l.quoted l.bytes.now) };
+#[tactic(auto, unfolding(crate::specs::Spelled::many))]
+impl fmt::Display for Characters<'_> {
+    ghost output = { λ c. Some (chars_spelled c.quoted c.bytes.now) };
 
     fn fmt<W: fmt::Write>(&self, f: &mut fmt::Formatter<W>) -> fmt::Result {
         for byte in self.bytes {
-            f.write(Letter {
+            f.write(Character {
                 quoted: self.quoted,
                 byte: *byte,
             })?;
@@ -70,11 +72,11 @@ impl fmt::Display for Quoted<'_> {
     ghost output = { λ v. Some (value_spelled v.0.now) };
 
     fn fmt<W: fmt::Write>(&self, f: &mut fmt::Formatter<W>) -> fmt::Result {
-        let letters = Letters {
+        let characters = Characters {
             quoted: true,
             bytes: self.0,
         };
-        write!(f, "\"{letters}\"")
+        write!(f, "\"{characters}\"")
     }
 }
 
@@ -86,7 +88,7 @@ impl fmt::Display for Bare<'_> {
     ghost output = { λ n. Some (chars_spelled false n.0.now) };
 
     fn fmt<W: fmt::Write>(&self, f: &mut fmt::Formatter<W>) -> fmt::Result {
-        f.write(Letters {
+        f.write(Characters {
             quoted: false,
             bytes: self.0,
         })
@@ -98,6 +100,7 @@ impl fmt::Display for Bare<'_> {
 pub struct InWords<'a, T>(pub &'a T);
 
 // A path of no names is a / alone.
+#[tactic(auto, unfolding(crate::specs::Spelled::many))]
 impl fmt::Display for InWords<'_, Path> {
     ghost output = { λ p. Some (path_spelled (path_of p.0.now)) };
 
@@ -132,9 +135,9 @@ fn numbered_word(numbered: bool) -> &'static str
 
 // The session that an entry goes with, where there is one.
 #[derive(Clone, Copy)]
-struct With(Session);
+struct GoesWith(Session);
 
-impl fmt::Display for With {
+impl fmt::Display for GoesWith {
     ghost output = { λ s. Some (session_spelled s.0.0) };
 
     fn fmt<W: fmt::Write>(&self, f: &mut fmt::Formatter<W>) -> fmt::Result {
@@ -162,15 +165,31 @@ impl fmt::Display for InWords<'_, Act> {
                 InWords(path),
                 Quoted(value),
                 numbered_word(*numbered),
-                With(*session),
+                GoesWith(*session),
             ),
             Act::Put {
                 path,
                 value,
                 expected,
-            } => write!(f, "put {} {}{}", InWords(path), Quoted(value), InWords(expected)),
-            Act::Drop { path, expected } => write!(f, "drop {}{}", InWords(path), InWords(expected)),
-            Act::Check { path, expected } => write!(f, "check {}{}", InWords(path), InWords(expected)),
+            } => write!(
+                f,
+                "put {} {}{}",
+                InWords(path),
+                Quoted(value),
+                InWords(expected)
+            ),
+            Act::Drop { path, expected } => write!(
+                f,
+                "drop {}{}",
+                InWords(path),
+                InWords(expected)
+            ),
+            Act::Check { path, expected } => write!(
+                f,
+                "check {}{}",
+                InWords(path),
+                InWords(expected)
+            ),
         }
     }
 }
@@ -179,6 +198,7 @@ impl fmt::Display for InWords<'_, Act> {
 #[derive(Clone, Copy)]
 struct Braced<'a>(&'a [Act]);
 
+#[tactic(auto, unfolding(crate::specs::Spelled::many))]
 impl fmt::Display for Braced<'_> {
     ghost output = { λ l. Some (braced_spelled (map act_of l.0.now)) };
 

@@ -1,8 +1,8 @@
 -- Two digits of hexadecimal.
 use Rattle.std.proofs.Common.{ℕ, List, Option, subst, sym, rules}
 use Rattle.std.specs.Fmt.{DisplaysOnOk}
-use Rattle.spelling.proofs.Letters.{two_digits}
-use Rattle.spelling.proofs.wording.LetterDisplay.fmt.Goals as goal
+use Rattle.spelling.proofs.Characters.{two_digits}
+use Rattle.spelling.proofs.wording.CharacterDisplay.fmt.Goals as goal
 
 pub returns-else-byte-eq10-clause-writes : goal.returns-else-byte-eq10-clause-writes
 returns-else-byte-eq10-clause-writes g c =
