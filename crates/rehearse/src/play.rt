@@ -8,16 +8,14 @@ use crate::scene::Scene;
 use calls::answers::refused;
 use calls::screening::{NotLetIn, screen};
 use encoding::push_call as push_bytes;
-use replies::push_answer;
+use replies::answer_in_words;
 use script::houses::{Forbidden, Houses};
 use script::incarnations::choose;
 use script::lines::{Command, Link};
 use script::network::{Letter, copies, part};
-use spelling::wording::push_call;
+use spelling::wording::InWords;
 use std::alloc::{AllocError, Global};
 use std::io;
-use std::io::Write;
-use text::decimal::push_decimal;
 use words::types::Call;
 
 // A house's answer to a call. Until there is a replica: a refusal, by 1 where the bytes are no call, else by 12.
@@ -32,12 +30,6 @@ fn hear(_to: u8, _from: u8, _bytes: &[u8]) {}
 // A house's clock ticks.
 fn beat(_house: u8) {}
 
-fn write_line(rt: &HostRuntime, line: &[u8]) -> io::Result<()> {
-    let mut stdout = rt.stdout();
-    stdout.write_all(line)?;
-    stdout.flush()
-}
-
 // A call at a house, with its answer, in words.
 fn play_call(rt: &HostRuntime, scene: &Scene, house: u8, call: &Call) -> anyhow::Result<()> {
     let heap = rt.alloc();
@@ -45,17 +37,10 @@ fn play_call(rt: &HostRuntime, scene: &Scene, house: u8, call: &Call) -> anyhow:
     if let Err(fault) = push_bytes(&mut bytes, call) {
         return Ok(scene.refuse(rt, fault)?);
     }
-    let answer = ask(&bytes);
-    let mut line = Vec::new(heap);
-    push_decimal(heap, &mut line, house as u64)?;
-    line.extend_from_slice(b": ")?;
-    push_call(heap, &mut line, call)?;
-    line.extend_from_slice(b" -> ")?;
-    if !push_answer(heap, &mut line, &answer)? {
-        line.extend_from_slice(b"no answer")?;
-    }
-    line.extend_from_slice(b"\n")?;
-    Ok(write_line(rt, &line)?)
+    let answer = answer_in_words(heap, &ask(&bytes))?;
+    let words = answer.as_deref().unwrap_or("no answer");
+    println!(rt; "{house}: {} -> {words}", InWords(call))?;
+    Ok(())
 }
 
 // One house's clock, or all of them, where they are up.

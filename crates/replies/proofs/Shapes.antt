@@ -1,14 +1,15 @@
 -- Bytes of the shape of a refusal, a session or an entry are read as just that, with the numbers that stand at its places; so what is written of what they are read as is what is told by their shape.
-use Rattle.std.proofs.Common.{◌≡◌, ℕ, ◌+◌, ◌-◌, ◌≤◌, Bool, true, false, cond, ◌&&◌, eqb, leb, List, [], ◌∷◌, length, get_or, take, drop, Some, None, Ok, Err, Option, Result, IfOk, MatchBool, sym, refl, ap, ◌∙◌, subst, arith}
+use Rattle.std.proofs.Common.{◌≡◌, ℕ, ◌+◌, ◌-◌, ◌≤◌, Bool, true, false, cond, ◌&&◌, eqb, leb, List, [], ◌∷◌, length, get_or, take, drop, Some, None, Option, MatchBool, sym, refl, ap, ◌∙◌, arith}
 use Rattle.std.proofs.lemmas.Bool.{and_parts, eqb-true, leb-true, le-leb, false≢true}
 use Rattle.std.proofs.lemmas.List.{drop-drop, drop_all, length-drop}
+use Rattle.std.specs.Option.{option_map}
 use Rattle.model.specs.Tree.{Reply, No, Entry', Session}
 use Rattle.lent_bytes.specs.Numbers.{be32, be64}
 use Rattle.lent_bytes.proofs.Places.{be32_take, be32_drop, be64_take, be64_drop}
 use Rattle.calls.specs.Format.{and_then, part_at, length_at, number_at, value_at, wholly, owner_at, kids_at, changed_at, made_at, version_at, reply_by, decode_reply}
 use Rattle.calls.proofs.Again.{onward}
-use Rattle.replies.specs.Answers.{reply_spelled, Spelled}
-use Rattle.replies.specs.ByShape.{is_refusal, is_session, is_entry, Wrote, AnswerSpelled}
+use Rattle.replies.specs.Answers.{reply_spelled}
+use Rattle.replies.specs.ByShape.{is_refusal, is_session, is_entry, AnswerSpelled}
 
 -- a part, a length and a number at the front
 part_front : (n : ℕ) (xs : List ℕ) → n ≤ length xs → part_at n xs ≡ Some (take n xs, drop n xs)
@@ -77,18 +78,17 @@ entry_read (b ∷ xs) e =
     ∙ onward (value_at xs) (λ v. version_at v.0 v.1) (take (length (b ∷ xs) - 45) (drop 5 (b ∷ xs))) (drop (length (b ∷ xs) - 40) (b ∷ xs)) _ (value_read (b ∷ xs) xs refl much size)
     (counts_read (take (length (b ∷ xs) - 45) (drop 5 (b ∷ xs))) (drop (length (b ∷ xs) - 40) (b ∷ xs)) (length-drop (length (b ∷ xs) - 40) (b ∷ xs) ∙ omega arith))
 
--- what is written of bytes that are read as this answer is its words
-wrote : {E : Type 0} (bs : List ℕ) (r : Reply) (result : Result Bool E) (before after : List ℕ) → decode_reply bs ≡ Some r → IfOk result (λ b. Spelled (decode_reply bs) b before after) → Wrote result before after (reply_spelled r)
-wrote bs r (Ok b) before after e h = subst (λ (o : Option Reply). Spelled o b before after) e h
-wrote bs r (Err x) before after e h = tt
-
 where_true : (b : Bool) (P Q : Type 0) → (b ≡ true → P) → Q → MatchBool b P Q
 where_true true P Q p q = p refl
 where_true false P Q p q = q
 
-pub by_shape : {E : Type 0} (bs : List ℕ) (result : Result Bool E) (before after : List ℕ) → IfOk result (λ b. Spelled (decode_reply bs) b before after) → AnswerSpelled bs result before after
-unfolding reply_spelled
-by_shape bs result before after h =
-    where_true (is_refusal bs) _ _ (λ e. wrote bs _ result before after (refusal_read bs e) h)
-    (where_true (is_session bs) _ _ (λ e. wrote bs _ result before after (session_read bs e) h)
-    (where_true (is_entry bs) _ _ (λ e. wrote bs _ result before after (entry_read bs e) h) tt))
+-- bytes that are read as an answer have its words
+module _ (bs : List ℕ) (text : Option (List ℕ)) (read : text ≡ option_map reply_spelled (decode_reply bs)) where
+  words : (r : Reply) → decode_reply bs ≡ Some r → text ≡ Some (reply_spelled r)
+  words r e = read ∙ ap (option_map reply_spelled) e
+
+  pub by_shape : AnswerSpelled bs text
+  unfolding reply_spelled
+  by_shape =
+      where_true (is_refusal bs) _ _ (λ e. words _ (refusal_read bs e))
+      (where_true (is_session bs) _ _ (λ e. words _ (session_read bs e)) (where_true (is_entry bs) _ _ (λ e. words _ (entry_read bs e)) tt))

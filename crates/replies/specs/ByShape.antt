@@ -1,5 +1,5 @@
--- What is written of a refusal, a session and an entry, told by the shape of the bytes.
-use Rattle.std.specs.Prelude.{◌≡◌, ℕ, ◌+◌, ◌-◌, Bool, true, ◌&&◌, List, ◌++◌, length, take, drop, IfOk, codes, decimal, MatchBool, Result, ◌==◌, nat_le, slice_index}
+-- The words of a refusal, a session and an entry, told by the shape of the bytes.
+use Rattle.std.specs.Prelude.{◌≡◌, ℕ, ◌+◌, ◌-◌, Bool, ◌&&◌, List, ◌++◌, length, take, drop, Some, codes, decimal, MatchBool, Option, ◌==◌, nat_le, slice_index}
 use Rattle.lent_bytes.specs.Numbers.{be32, be64}
 use Rattle.spelling.specs.Spelled.{value_spelled}
 use Rattle.replies.specs.Answers.{reason_spelled}
@@ -31,12 +31,9 @@ is_session bs = length bs == 9 && slice_index bs 0 == 4
 abbrev pub is_entry : List ℕ → Bool
 is_entry bs = nat_le 45 (length bs) && slice_index bs 0 == 2 && be32 bs 1 + 45 == length bs
 
-abbrev pub Wrote : {E : Type 0} → Result Bool E → (before after text : List ℕ) → Type 0
-Wrote r before after text = IfOk r (λ b. (b ≡ true) × (after ≡ before ++ text))
-
--- what is written of a refusal, a session and an entry
-abbrev pub AnswerSpelled : {E : Type 0} → List ℕ → Result Bool E → (before after : List ℕ) → Type 0
-AnswerSpelled bs r before after =
-    MatchBool (is_refusal bs) (Wrote r before after (refused_spelled (slice_index bs 1) (slice_index bs 2)))
-    (MatchBool (is_session bs) (Wrote r before after (count_spelled (codes "session ") bs 1))
-    (MatchBool (is_entry bs) (Wrote r before after (entry_spelled (take (length bs - 45) (drop 5 bs)) (drop (length bs - 40) bs))) (Unit {0})))
+-- the words of a refusal, a session and an entry; None where there are none
+abbrev pub AnswerSpelled : List ℕ → Option (List ℕ) → Type 0
+AnswerSpelled bs text =
+    MatchBool (is_refusal bs) (text ≡ Some (refused_spelled (slice_index bs 1) (slice_index bs 2)))
+    (MatchBool (is_session bs) (text ≡ Some (count_spelled (codes "session ") bs 1))
+    (MatchBool (is_entry bs) (text ≡ Some (entry_spelled (take (length bs - 45) (drop 5 bs)) (drop (length bs - 40) bs))) (Unit {0})))

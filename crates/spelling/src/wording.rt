@@ -1,25 +1,14 @@
 // Calls in words.
-// Printing is by functions that write behind what a Vec holds, and no impl of Display: answers and lines are put together from several such pieces where only memory can be wanting; a Display would make a String of each piece first, and the caller would copy it.
-ghost use Rattle.std.specs.Prelude.{◌≡◌, false, ◌++◌, map, OnOk};
+ghost use Rattle.std.specs.Prelude.{◌≡◌, false, Some, map};
 ghost use Rattle.calls.specs.Reading.{expect_of};
 ghost use Rattle.words.specs.Values.{name_of, path_of, act_of, call_of};
-ghost use Rattle.spelling.specs.Spelled.{plain, char_spelled, chars_spelled, many, value_spelled, name_spelled, path_spelled, expect_spelled, numbered_spelled, session_spelled, both_spelled, act_spelled, piece_spelled, braced_spelled, do_spelled, call_spelled};
+ghost use Rattle.spelling.specs.Spelled.{plain, char_spelled, chars_spelled, value_spelled, path_spelled, expect_spelled, numbered_spelled, session_spelled, act_spelled, piece_spelled, braced_spelled, do_spelled, call_spelled};
 
 use calls::types::Expected;
 use lent_bytes::counts::Session;
-use std::alloc::{AllocError, Global};
-use text::decimal::push_decimal;
-use text::hex::hex_digit;
+use std::fmt;
 use words::reading::is_end;
 use words::types::{Act, Call, Path};
-
-// Writes a text behind what is there.
-// kept: as at the head of this file, Display would want a String first
-pub fn push_text(out: &mut Vec<u8>, text: &str) -> Result<(), AllocError>
-    ensures { OnOk result (out.new.items ≡ out.old.items ++ text.now) }
-{
-    out.extend_from_slice(text.as_bytes())
-}
 
 fn is_plain(quoted: bool, c: u8) -> bool
     ensures { result ≡ plain quoted c }
@@ -27,189 +16,224 @@ fn is_plain(quoted: bool, c: u8) -> bool
     32 <= c && c <= 126 && !is_end(quoted, c) && c != b'\\'
 }
 
-// kept: as at the head of this file, Display would want a String first
-fn push_char(out: &mut Vec<u8>, quoted: bool, c: u8) -> Result<(), AllocError>
-    ensures { OnOk result (out.new.items ≡ out.old.items ++ char_spelled quoted c) }
-{
-    if is_plain(quoted, c) {
-        out.extend_from_slice(&[c])
-    } else if c == b'"' || c == b'\\' {
-        out.extend_from_slice(&[b'\\', c])
-    } else if c == b'\n' {
-        out.extend_from_slice(b"\\n")
-    } else {
-        out.extend_from_slice(&[b'\\', b'x', hex_digit(c / 16), hex_digit(c % 16)])
+// A byte of a value or a name.
+#[derive(Clone, Copy)]
+struct Character {
+    quoted: bool,
+    byte: u8,
+}
+
+impl fmt::Display for Character {
+    ghost output = { λ c. Some (char_spelled c.quoted c.byte) };
+
+    fn fmt<W: fmt::Write>(&self, f: &mut fmt::Formatter<W>) -> fmt::Result {
+        let byte = self.byte;
+        if is_plain(self.quoted, byte) {
+            f.write_char(byte as char)
+        } else if byte == b'"' {
+            f.write_str("\\\"")
+        } else if byte == b'\\' {
+            f.write_str("\\\\")
+        } else if byte == b'\n' {
+            f.write_str("\\n")
+        } else {
+            write!(f, "\\x{byte:02x}")
+        }
     }
 }
 
-// kept: as at the head of this file, Display would want a String first
-fn push_chars(out: &mut Vec<u8>, quoted: bool, chars: &[u8]) -> Result<(), AllocError>
-    ensures { OnOk result (out.new.items ≡ out.old.items ++ chars_spelled quoted chars.now) }
-{
-    for c in chars {
-        push_char(out, quoted, *c)?;
+// The bytes of a value or a name, one behind the other.
+#[derive(Clone, Copy)]
+struct Characters<'a> {
+    quoted: bool,
+    bytes: &'a [u8],
+}
+
+#[tactic(auto, unfolding(crate::specs::Spelled::many))]
+impl fmt::Display for Characters<'_> {
+    ghost output = { λ c. Some (chars_spelled c.quoted c.bytes.now) };
+
+    fn fmt<W: fmt::Write>(&self, f: &mut fmt::Formatter<W>) -> fmt::Result {
+        for byte in self.bytes {
+            f.write(Character {
+                quoted: self.quoted,
+                byte: *byte,
+            })?;
+        }
+        Ok(())
     }
-    Ok(())
 }
 
 // A value in quotes.
-// kept: as at the head of this file, Display would want a String first
-pub fn push_value(out: &mut Vec<u8>, value: &[u8]) -> Result<(), AllocError>
-    ensures { OnOk result (out.new.items ≡ out.old.items ++ value_spelled value.now) }
-{
-    push_text(out, "\"")?;
-    push_chars(out, true, value)?;
-    push_text(out, "\"")
+#[derive(Clone, Copy)]
+pub struct Quoted<'a>(pub &'a [u8]);
+
+impl fmt::Display for Quoted<'_> {
+    ghost output = { λ v. Some (value_spelled v.0.now) };
+
+    fn fmt<W: fmt::Write>(&self, f: &mut fmt::Formatter<W>) -> fmt::Result {
+        let characters = Characters {
+            quoted: true,
+            bytes: self.0,
+        };
+        write!(f, "\"{characters}\"")
+    }
 }
 
 // A name without a / in front of it.
-// kept: as at the head of this file, Display would want a String first
-pub fn push_name(out: &mut Vec<u8>, name: &[u8]) -> Result<(), AllocError>
-    ensures { OnOk result (out.new.items ≡ out.old.items ++ chars_spelled false name.now) }
-{
-    push_chars(out, false, name)
+#[derive(Clone, Copy)]
+pub struct Bare<'a>(pub &'a [u8]);
+
+impl fmt::Display for Bare<'_> {
+    ghost output = { λ n. Some (chars_spelled false n.0.now) };
+
+    fn fmt<W: fmt::Write>(&self, f: &mut fmt::Formatter<W>) -> fmt::Result {
+        f.write(Characters {
+            quoted: false,
+            bytes: self.0,
+        })
+    }
 }
+
+// A call or a part of one in words.
+#[derive(Clone, Copy)]
+pub struct InWords<'a, T>(pub &'a T);
 
 // A path of no names is a / alone.
-// kept: as at the head of this file, Display would want a String first
-fn push_path(out: &mut Vec<u8>, path: &Path) -> Result<(), AllocError>
-    ensures { OnOk result (out.new.items ≡ out.old.items ++ path_spelled (path_of path.now)) }
-{
-    if path.0.is_empty() {
-        return push_text(out, "/");
+#[tactic(auto, unfolding(crate::specs::Spelled::many))]
+impl fmt::Display for InWords<'_, Path> {
+    ghost output = { λ p. Some (path_spelled (path_of p.0.now)) };
+
+    fn fmt<W: fmt::Write>(&self, f: &mut fmt::Formatter<W>) -> fmt::Result {
+        let names = &self.0.0;
+        if names.is_empty() {
+            return f.write_str("/");
+        }
+        for name in names {
+            write!(f, "/{}", Bare(&name.0))?;
+        }
+        Ok(())
     }
-    for name in &path.0 {
-        push_text(out, "/")?;
-        push_name(out, &name.0)?;
-    }
-    Ok(())
 }
 
-// kept: as at the head of this file, Display would want a String first
-fn push_expected(heap: Global, out: &mut Vec<u8>, expected: Expected) -> Result<(), AllocError>
-    ensures { OnOk result (out.new.items ≡ out.old.items ++ expect_spelled (expect_of expected)) }
-{
-    match expected {
-        Expected::Any => Ok(()),
-        Expected::Exactly(version) => {
-            push_text(out, " version ")?;
-            push_decimal(heap, out, version.0)
+impl fmt::Display for InWords<'_, Expected> {
+    ghost output = { λ x. Some (expect_spelled (expect_of x.0.now)) };
+
+    fn fmt<W: fmt::Write>(&self, f: &mut fmt::Formatter<W>) -> fmt::Result {
+        match self.0 {
+            Expected::Any => Ok(()),
+            Expected::Exactly(version) => write!(f, " version {}", version.0),
         }
     }
 }
 
-// kept: as at the head of this file, Display would want a String first
-fn push_numbered(out: &mut Vec<u8>, numbered: bool) -> Result<(), AllocError>
-    ensures { OnOk result (out.new.items ≡ out.old.items ++ numbered_spelled numbered) }
+fn numbered_word(numbered: bool) -> &'static str
+    ensures { result.now ≡ numbered_spelled numbered }
 {
-    push_text(out, if numbered { " numbered" } else { "" })
+    if numbered { " numbered" } else { "" }
 }
 
-// kept: as at the head of this file, Display would want a String first
-fn push_session(heap: Global, out: &mut Vec<u8>, session: Session) -> Result<(), AllocError>
-    ensures { OnOk result (out.new.items ≡ out.old.items ++ session_spelled session.0) }
-{
-    if session.0 == 0 {
-        return Ok(());
+// The session that an entry goes with, where there is one.
+#[derive(Clone, Copy)]
+struct GoesWith(Session);
+
+impl fmt::Display for GoesWith {
+    ghost output = { λ s. Some (session_spelled s.0.0) };
+
+    fn fmt<W: fmt::Write>(&self, f: &mut fmt::Formatter<W>) -> fmt::Result {
+        match self.0.0 {
+            0 => Ok(()),
+            session => write!(f, " session {session}"),
+        }
     }
-    push_text(out, " session ")?;
-    push_decimal(heap, out, session.0)
-}
-
-// A path, and a value behind it.
-// kept: as at the head of this file, Display would want a String first
-fn push_both(out: &mut Vec<u8>, path: &Path, value: &[u8]) -> Result<(), AllocError>
-    ensures { OnOk result (out.new.items ≡ out.old.items ++ both_spelled (path_of path.now) value.now) }
-{
-    push_path(out, path)?;
-    push_text(out, " ")?;
-    push_value(out, value)
 }
 
 #[tactic(auto, unfolding(crate::specs::Spelled::act_spelled))]
-// kept: as at the head of this file, Display would want a String first
-fn push_act(heap: Global, out: &mut Vec<u8>, act: &Act) -> Result<(), AllocError>
-    ensures { OnOk result (out.new.items ≡ out.old.items ++ act_spelled (act_of act.now)) }
-{
-    match act {
-        Act::Make {
-            path,
-            value,
-            numbered,
-            session,
-        } => {
-            push_text(out, "make ")?;
-            push_both(out, path, value)?;
-            push_numbered(out, *numbered)?;
-            push_session(heap, out, *session)
-        }
-        Act::Put {
-            path,
-            value,
-            expected,
-        } => {
-            push_text(out, "put ")?;
-            push_both(out, path, value)?;
-            push_expected(heap, out, *expected)
-        }
-        Act::Drop { path, expected } => {
-            push_text(out, "drop ")?;
-            push_path(out, path)?;
-            push_expected(heap, out, *expected)
-        }
-        Act::Check { path, expected } => {
-            push_text(out, "check ")?;
-            push_path(out, path)?;
-            push_expected(heap, out, *expected)
+impl fmt::Display for InWords<'_, Act> {
+    ghost output = { λ a. Some (act_spelled (act_of a.0.now)) };
+
+    fn fmt<W: fmt::Write>(&self, f: &mut fmt::Formatter<W>) -> fmt::Result {
+        match self.0 {
+            Act::Make {
+                path,
+                value,
+                numbered,
+                session,
+            } => write!(
+                f,
+                "make {} {}{}{}",
+                InWords(path),
+                Quoted(value),
+                numbered_word(*numbered),
+                GoesWith(*session),
+            ),
+            Act::Put {
+                path,
+                value,
+                expected,
+            } => write!(
+                f,
+                "put {} {}{}",
+                InWords(path),
+                Quoted(value),
+                InWords(expected)
+            ),
+            Act::Drop { path, expected } => write!(
+                f,
+                "drop {}{}",
+                InWords(path),
+                InWords(expected)
+            ),
+            Act::Check { path, expected } => write!(
+                f,
+                "check {}{}",
+                InWords(path),
+                InWords(expected)
+            ),
         }
     }
 }
 
 // Acts in braces.
-// kept: as at the head of this file, Display would want a String first
-fn push_braced(heap: Global, out: &mut Vec<u8>, acts: &[Act]) -> Result<(), AllocError>
-    ensures { OnOk result (out.new.items ≡ out.old.items ++ braced_spelled (map act_of acts.now)) }
-{
-    push_text(out, "do {")?;
-    for act in acts {
-        push_text(out, " ")?;
-        push_act(heap, out, act)?;
-        push_text(out, ";")?;
+#[derive(Clone, Copy)]
+struct Braced<'a>(&'a [Act]);
+
+#[tactic(auto, unfolding(crate::specs::Spelled::many))]
+impl fmt::Display for Braced<'_> {
+    ghost output = { λ l. Some (braced_spelled (map act_of l.0.now)) };
+
+    fn fmt<W: fmt::Write>(&self, f: &mut fmt::Formatter<W>) -> fmt::Result {
+        f.write_str("do {")?;
+        for act in self.0 {
+            write!(f, " {};", InWords(act))?;
+        }
+        f.write_str(" }")
     }
-    push_text(out, " }")
 }
 
 // One act stands alone, any other number of them in braces.
-// kept: as at the head of this file, Display would want a String first
-fn push_do(heap: Global, out: &mut Vec<u8>, acts: &[Act]) -> Result<(), AllocError>
-    ensures { OnOk result (out.new.items ≡ out.old.items ++ do_spelled (map act_of acts.now)) }
-{
-    match acts {
-        [act] => push_act(heap, out, act),
-        _ => push_braced(heap, out, acts),
+impl fmt::Display for InWords<'_, Vec<Act>> {
+    ghost output = { λ l. Some (do_spelled (map act_of l.0.now.items)) };
+
+    fn fmt<W: fmt::Write>(&self, f: &mut fmt::Formatter<W>) -> fmt::Result {
+        match &self.0[..] {
+            [act] => f.write(InWords(act)),
+            acts => f.write(Braced(acts)),
+        }
     }
 }
 
-// Writes the call in words behind what is there.
 #[tactic(auto, unfolding(crate::specs::Spelled::call_spelled))]
-// kept: as at the head of this file, Display would want a String first
-pub fn push_call(heap: Global, out: &mut Vec<u8>, call: &Call) -> Result<(), AllocError>
-    ensures { OnOk result (out.new.items ≡ out.old.items ++ call_spelled (call_of call.now)) }
-{
-    match call {
-        Call::Do(acts) => push_do(heap, out, acts),
-        Call::Look(path) => {
-            push_text(out, "look ")?;
-            push_path(out, path)
-        }
-        Call::Kids(path) => {
-            push_text(out, "kids ")?;
-            push_path(out, path)
-        }
-        Call::Open => push_text(out, "open"),
-        Call::End(session) => {
-            push_text(out, "end ")?;
-            push_decimal(heap, out, session.0)
+impl fmt::Display for InWords<'_, Call> {
+    ghost output = { λ c. Some (call_spelled (call_of c.0.now)) };
+
+    fn fmt<W: fmt::Write>(&self, f: &mut fmt::Formatter<W>) -> fmt::Result {
+        match self.0 {
+            Call::Do(acts) => f.write(InWords(acts)),
+            Call::Look(path) => write!(f, "look {}", InWords(path)),
+            Call::Kids(path) => write!(f, "kids {}", InWords(path)),
+            Call::Open => f.write_str("open"),
+            Call::End(session) => write!(f, "end {}", session.0),
         }
     }
 }

@@ -1,5 +1,5 @@
 -- The list that was read to the end of the bytes, behind its word.
-use Rattle.std.proofs.Common.{vec_items, codes, refl}
+use Rattle.std.proofs.Common.{string_bytes, codes, refl}
 use Rattle.model.specs.Tree.{Names}
 use Rattle.calls.specs.Format.{length_at, names_at}
 use Rattle.spelling.specs.Spelled.{many}
@@ -10,15 +10,15 @@ use Rattle.replies.proofs.tell_kids.Goals as goal
 pub returns : goal.returns
 unfolding reply_spelled
 returns c =
-    list_told (many (name_behind (codes " "))) Names (codes "names") (λ xs. refl) (vec_items c.args.out.now) names_at (length_at c.args.bytes.now) c.length.result c.in_ok-count.count c.in_ok-count.names
-    (vec_items c.push_text.new.out)
-    (vec_items c.tell_names.new.out)
+    list_told (many (name_behind (codes " "))) Names (codes "names") (λ xs. refl) (string_bytes c.args.out.now) names_at (length_at c.args.bytes.now) c.length.result c.in_ok-count.count c.in_ok-count.names
+    (string_bytes c.push_str.new.self)
+    (string_bytes c.tell_names.new.out)
     c.in_ok-rest.rest
     c.wholly.result
     c.ok_or-2.result
     c.length.ensures
     c.in_ok-count.ensures.ok_part
-    c.in_ok-push_text.ensures
+    c.in_ok-push_str.ensures.bytes
     c.in_ok-rest.ensures
     c.wholly.ensures
     c.ok_or-2.ensures.value
