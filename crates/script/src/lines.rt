@@ -4,7 +4,7 @@ ghost use Rattle.std.specs.Option.{option_map};
 ghost use Rattle.std.specs.Fn.{FnOnceReturnsAt};
 ghost use Rattle.calls.specs.Reading.{behind};
 ghost use Rattle.words.specs.Values.{Reads};
-ghost use Rattle.script.specs.Lines.{line_of, at_end, is_out, within_at, house_at, link_at, maybe_at, maybe, room_at, count_at, houses_at, call_line_at, wake_at, run_at, house_happening_by, happening_by, command_by, line_at, LineRead, lined};
+ghost use Rattle.script.specs.Lines.{line_of, at_end, is_out, within_at, house_at, link_at, maybe_at, maybe, room_at, houses_at, call_line_at, wake_at, run_at, house_happening_by, happening_by, command_by, line_at, LineRead, lined};
 
 use phrases::read_call;
 use std::alloc::Global;
@@ -111,16 +111,11 @@ fn read_room(text: &[u8]) -> Option<(Option<u64>, &[u8])>
     }
 }
 
-fn read_count(text: &[u8]) -> Option<(u8, &[u8])>
-    ensures { option_map behind result ≡ count_at text.now }
-{
-    read_within(text, 1, 7)
-}
-
+// One to seven houses, and their room where it is said.
 fn read_houses(text: &[u8]) -> Result<(Command, &[u8]), Fault>
     ensures { Reads line_of result (houses_at text.now) }
 {
-    let (count, rest) = read_count(text).ok_or(Wrong::Houses)?;
+    let (count, rest) = read_within(text, 1, 7).ok_or(Wrong::Houses)?;
     let (room, rest) = read_room(rest).ok_or(Wrong::Houses)?;
     Ok((Command::Houses { count, room }, rest))
 }
