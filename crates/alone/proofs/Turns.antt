@@ -1,5 +1,5 @@
 -- What a call leaves in the memory of one replica alone: silence only where no more changes can be counted, the tree that was there, or the tree that was written beside it. Assumes nothing.
-use Rattle.std.proofs.Common.{◌≡◌, ℕ, ◌+◌, ◌-◌, ◌/◌, ◌<◌, ◌≤◌, Bool, true, List, length, take, is_some, IfSome, Some, None, Option, Vec, sym, refl, ap, ◌∙◌, subst, arith}
+use Rattle.std.proofs.Common.{◌≡◌, ℕ, ◌+◌, ◌/◌, ◌<◌, ◌≤◌, true, List, length, take, IfSome, Some, None, Option, Vec, sym, refl, ap, ◌∙◌, subst, arith}
 use Rattle.std.specs.Vec.{with_items}
 use Rattle.model.specs.Tree.{State}
 use Rattle.cells.specs.declared.draft.Size.{Size}
@@ -13,27 +13,12 @@ use Rattle.content.specs.Content.{is_tree}
 use Rattle.content.proofs.Decided.{tree_decided}
 use Rattle.service.specs.declared.clerk.Answered.{Answered}
 use Rattle.service.specs.Answering.{Answers, AnsweredBy, left_by}
-use Rattle.service.specs.Service.{lines}
-use Rattle.alone.specs.Standing.{stands_for, Roomy, Speaks, Told}
-use Rattle.alone.specs.Turning.{said_by, size_by, used_by, pick}
+use Rattle.alone.specs.Standing.{stands_for, Roomy, Told}
+use Rattle.alone.specs.Turning.{used_by, pick}
 
 -- memory that was lent as a slice is as long as it was
 pub same_length : {X Z : Type 0} (v : Vec X Z) (ws : List X) → length (with_items v ws).items ≡ length v.items
 same_length v ws = sym (with_items v ws).ok.0 ∙ v.ok.0
-
--- buffers that are as long as such as are long enough
-pub still_roomy : (room : ℕ) (bytes bytes' ps ps' more less : List ℕ) → length bytes' ≡ length bytes → length ps' ≡ length ps → Roomy room bytes less → Roomy room more ps → Roomy room bytes' ps'
-still_roomy room bytes bytes' ps ps' more less e f a b = (omega (arith, a.0), omega (arith, a.1), omega (arith, b.2))
-
-pub still_speaks : (room old said : ℕ) (reply reply' : List ℕ) → length reply' ≡ length reply → said ≤ length reply' → Speaks room old reply → Speaks room said reply'
-still_speaks room old said reply reply' e n a = (omega (arith, a.0), omega (arith, a.1), n)
-
--- a slice from the front of what a buffer holds
-pub front_of : (used : ℕ) (seen tree : List ℕ) → seen ≡ tree → meaning (take (used - 0) seen) ≡ stands_for tree used
-front_of used seen tree e = let n : used - 0 ≡ used = omega arith in λ i. meaning (take (n i) (e i))
-
-pub front_is : (room used : ℕ) (seen tree : List ℕ) → seen ≡ tree → is_tree room (take used tree) ≡ true → is_tree room (take (used - 0) seen) ≡ true
-front_is room used seen tree e t = let n : used - 0 ≡ used = omega arith in (λ i. is_tree room (take (n i) (e i))) ∙ t
 
 -- no answer: there can be no more changes
 pub silent : (room : ℕ) (bytes call last out ps reply : List ℕ) → is_tree room bytes ≡ true → Roomy room out ps → room / 1280 + 1 ≤ length last → room + 65581 ≤ length reply → length reply < 4294967296 →

@@ -1,8 +1,6 @@
 -- The replica afterwards stands for what one clerk leaves, and what it says is what one clerk says.
-use Rattle.std.proofs.Common.{◌≡◌, ℕ, List, None, Some, length, take, vec_items, refl, ap, ◌∙◌, arith}
-use Rattle.std.specs.Vec.{with_items}
+use Rattle.std.proofs.Common.{◌≡◌, None, Some, length, take, vec_items, refl, ◌∙◌, arith}
 use Rattle.std.proofs.lemmas.List.{with_items_is}
-use Rattle.alone.specs.declared.Desk.{Desk}
 use Rattle.alone.proofs.Turns.{silent, lies, seen_as, answer_told}
 use Rattle.alone.proofs.Alone.ask.Goals as goal
 
