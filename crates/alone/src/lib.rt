@@ -1,17 +1,18 @@
 // One replica alone: its tree lies in one buffer, and the next is written into another, which then is the tree.
 #![tactic(auto)]
 
-ghost use Rattle.std.specs.Prelude.{◌≡◌, ◌≤◌, min, true, length, take, is_ok, IfOk};
+ghost use Rattle.std.specs.Prelude.{◌≡◌, ◌≤◌, min, true, length, take, IfSome, IfOk};
 ghost use Rattle.model.specs.Tree.{blank};
 ghost use Rattle.content.specs.Content.{is_tree};
 ghost use Rattle.service.specs.Answering.{AnsweredBy};
 ghost use Rattle.alone.specs.Standing.{stands_for, Roomy, Speaks, Told};
-ghost use Rattle.alone.specs.Turning.{said_by, size_by, used_by, pick, either};
+ghost use Rattle.alone.specs.Turning.{used_by, pick};
 
 use cells::draft::Size;
 use drafts::writing::start_blank;
 use service::clerk::{Answered, answer};
 use std::alloc::{AllocError, Global};
+use std::mem;
 
 // Memory for a call: for the places of the last tree's entries, for those of the next, and for the answer.
 #[derive(Drop)]
@@ -41,21 +42,21 @@ pub struct Alone {
 
 // Answers a call from a tree's bytes, in the memory of a desk and what is lent for the next tree.
 fn answer_at(
-    desk: Desk,
+    desk: &mut Desk,
     bytes: &[u8],
     room: u64,
     call: &[u8],
     next: &mut [u8],
-) -> (Desk, Option<Answered>)
-    ensures answered { AnsweredBy room bytes.now call.now result.1 result.0.last.items next.new result.0.places.items result.0.reply.items }
-    ensures long { (length result.0.last.items ≡ length desk.last.items) × (length result.0.places.items ≡ length desk.places.items) × (length result.0.reply.items ≡ length desk.reply.items) }
+) -> Option<Answered>
+    ensures answered { AnsweredBy room bytes.now call.now result desk.new.last.items next.new desk.new.places.items desk.new.reply.items }
+    ensures long { (length desk.new.last.items ≡ length desk.old.last.items) × (length desk.new.places.items ≡ length desk.old.places.items) × (length desk.new.reply.items ≡ length desk.old.reply.items) }
 {
     let Desk {
-        mut last,
-        mut places,
-        mut reply,
+        last,
+        places,
+        reply,
     } = desk;
-    let done = answer(
+    answer(
         bytes,
         room,
         call,
@@ -63,45 +64,7 @@ fn answer_at(
         next,
         places.as_mut_slice(),
         reply.as_mut_slice(),
-    );
-    let desk = Desk {
-        last,
-        places,
-        reply,
-    };
-    (desk, done)
-}
-
-// How long the answer is, and the size of the tree that was written, if there is one.
-fn outcome(done: Option<Answered>) -> (usize, Option<Size>)
-    ensures { (result.0 ≡ said_by done) × (result.1 ≡ size_by done) }
-{
-    match done {
-        Some(answered) => (answered.reply, answered.next),
-        None => (0, None),
-    }
-}
-
-// Which buffer is the tree: the other one where a tree was written there.
-fn turned(
-    used: usize,
-    tree: Vec<u8>,
-    next: Vec<u8>,
-    size: Option<Size>,
-) -> (usize, Vec<u8>, Vec<u8>)
-    ensures { (result.0 ≡ used_by used size) × (result.1 ≡ pick tree next size) × (result.2 ≡ pick next tree size) }
-{
-    match size {
-        Some(size) => (size.used, next, tree),
-        None => (used, tree, next),
-    }
-}
-
-// The replica afterwards, where it answered, and where it didn't.
-fn told(alone: Alone, answered: bool) -> Result<Alone, Alone>
-    ensures { (either result ≡ alone) × (is_ok result ≡ answered) }
-{
-    if answered { Ok(alone) } else { Err(alone) }
+    )
 }
 
 impl Alone {
@@ -132,32 +95,40 @@ impl Alone {
         })
     }
 
-    // Answers a call, and is the replica afterwards; or, where no more changes can be counted, there is no answer, and the replica is what it was.
-    pub fn ask(self, call: &[u8]) -> Result<Alone, Alone>
-        ensures room { (either result).room ≡ self.room }
-        ensures told { Told self.room call.now (stands_for self.tree.items self.used) (is_ok result) (stands_for (either result).tree.items (either result).used) (take (either result).said (either result).desk.reply.items) }
+    // The tree that was written into the other buffer, if one was, is the tree from now on.
+    fn turn(&mut self, size: Option<Size>)
+        requires { IfSome size (λ z. (is_tree self.old.room (take z.used self.old.next.items) ≡ true) × (z.used ≤ length self.old.next.items)) }
+        ensures tree { (self.new.tree.items ≡ pick self.old.tree.items self.old.next.items size) × (self.new.used ≡ used_by self.old.used size) }
+        ensures kept { (self.new.room ≡ self.old.room) × (self.new.said ≡ self.old.said) × (self.new.desk ≡ self.old.desk) }
+    {
+        if let Some(size) = size {
+            let Alone { tree, next, .. } = self;
+            mem::swap(tree, next);
+            self.used = size.used;
+        }
+    }
+
+    // Answers a call, and says whether there is an answer; where no more changes can be counted there is none, and the tree is what it was.
+    pub fn ask(&mut self, call: &[u8]) -> bool
+        ensures room { self.new.room ≡ self.old.room }
+        ensures told { Told self.old.room call.now (stands_for self.old.tree.items self.old.used) result (stands_for self.new.tree.items self.new.used) (take self.new.said self.new.desk.reply.items) }
     {
         let Alone {
             room,
             used,
             tree,
-            mut next,
+            next,
             desk,
             ..
         } = self;
-        let bytes = &tree.as_slice()[0..used];
-        let (desk, done) = answer_at(desk, bytes, room, call, next.as_mut_slice());
-        let (said, size) = outcome(done);
-        let (used, tree, next) = turned(used, tree, next, size);
-        let alone = Alone {
-            room,
-            used,
-            said,
-            tree,
-            next,
-            desk,
+        let bytes = &tree.as_slice()[..*used];
+        let Some(answered) = answer_at(desk, bytes, *room, call, next.as_mut_slice()) else {
+            self.said = 0;
+            return false;
         };
-        told(alone, done.is_some())
+        self.said = answered.reply;
+        self.turn(answered.next);
+        true
     }
 
     // The last answer.

@@ -81,16 +81,11 @@ impl House {
     // A call: answered from the tree where this replica is the only one.
     fn ask(&mut self, heap: Global, bytes: &[u8], out: &mut Vec<u8>) -> Result<(), Refusal> {
         let frame = read_frame(bytes)?;
-        let Some(alone) = self.only.take() else {
+        let Some(alone) = &mut self.only else {
             return refuse(heap, frame.number, frame.call, out);
         };
-        match alone.ask(frame.call) {
-            Ok(alone) => {
-                let told = push_answer(heap, out, frame.number, alone.reply());
-                self.only = Some(alone);
-                told?;
-            }
-            Err(alone) => self.only = Some(alone),
+        if alone.ask(frame.call) {
+            push_answer(heap, out, frame.number, alone.reply())?;
         }
         Ok(())
     }

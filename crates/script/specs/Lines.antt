@@ -49,6 +49,10 @@ is_out (c ∷ cs) = c == 35
 abbrev pub at_end : List ℕ → Bool
 at_end xs = is_out (unspaced xs)
 
+-- a number from the least to the greatest of these
+abbrev pub within_at : (least greatest : ℕ) → List ℕ → Option (ℕ × List ℕ)
+within_at least greatest xs = and_then (number_at xs) (λ n. cond (nat_lt n.0 least) None (cond (nat_lt greatest n.0) None (Some (n.0, n.1))))
+
 abbrev pub house_at : List ℕ → Option (ℕ × List ℕ)
 house_at xs = and_then (number_at xs) (λ n. cond (nat_lt n.0 7) (Some (n.0, n.1)) None)
 

@@ -4,7 +4,7 @@ ghost use Rattle.std.specs.Option.{option_map};
 ghost use Rattle.std.specs.Fn.{FnOnceReturnsAt};
 ghost use Rattle.calls.specs.Reading.{behind};
 ghost use Rattle.words.specs.Values.{Reads};
-ghost use Rattle.script.specs.Lines.{line_of, at_end, is_out, house_at, link_at, maybe_at, maybe, room_at, count_at, houses_at, call_line_at, wake_at, run_at, house_happening_by, happening_by, command_by, line_at, LineRead, lined};
+ghost use Rattle.script.specs.Lines.{line_of, at_end, is_out, within_at, house_at, link_at, maybe_at, maybe, room_at, houses_at, call_line_at, wake_at, run_at, house_happening_by, happening_by, command_by, line_at, LineRead, lined};
 
 use phrases::read_call;
 use std::alloc::Global;
@@ -66,13 +66,23 @@ fn read_maybe<'a, T, F: FnOnce(&'a [u8]) -> Option<(T, &'a [u8])>>(
     Some((Some(one), rest))
 }
 
+// A number from the least to the greatest of these.
+fn read_within(text: &[u8], least: u8, greatest: u8) -> Option<(u8, &[u8])>
+    ensures { option_map behind result ≡ within_at least greatest text.now }
+{
+    let (number, rest) = read_number(text)?;
+    let number = u8::try_from(number).ok()?;
+    if (least..=greatest).contains(&number) {
+        Some((number, rest))
+    } else {
+        None
+    }
+}
+
 fn read_house(text: &[u8]) -> Option<(u8, &[u8])>
     ensures { option_map behind result ≡ house_at text.now }
 {
-    match read_number(text)? {
-        (house @ 0..=6, rest) => Some((house as u8, rest)),
-        _ => None,
-    }
+    read_within(text, 0, 6)
 }
 
 fn read_link(text: &[u8]) -> Option<(Link, &[u8])>
@@ -101,19 +111,11 @@ fn read_room(text: &[u8]) -> Option<(Option<u64>, &[u8])>
     }
 }
 
-fn read_count(text: &[u8]) -> Option<(u8, &[u8])>
-    ensures { option_map behind result ≡ count_at text.now }
-{
-    match read_number(text)? {
-        (count @ 1..=7, rest) => Some((count as u8, rest)),
-        _ => None,
-    }
-}
-
+// One to seven houses, and their room where it is said.
 fn read_houses(text: &[u8]) -> Result<(Command, &[u8]), Fault>
     ensures { Reads line_of result (houses_at text.now) }
 {
-    let (count, rest) = read_count(text).ok_or(Wrong::Houses)?;
+    let (count, rest) = read_within(text, 1, 7).ok_or(Wrong::Houses)?;
     let (room, rest) = read_room(rest).ok_or(Wrong::Houses)?;
     Ok((Command::Houses { count, room }, rest))
 }

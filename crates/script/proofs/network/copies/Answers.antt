@@ -1,7 +1,7 @@
 -- Each turn copies one letter, or passes it by.
 use Rattle.std.proofs.Common.{ℕ, List, [], ◌∷◌, ◌++◌, map, take, vec_items, Vec, sym, ap, ◌∙◌}
 use Rattle.std.specs.declared.alloc.Global.{Global}
-use Rattle.std.proofs.lemmas.List.{take_all, map_push}
+use Rattle.std.proofs.lemmas.List.{map_push}
 use Rattle.model.specs.Tree.{keep}
 use Rattle.script.specs.declared.network.Letter.{Letter}
 use Rattle.script.specs.Network.{is_on, contents}
@@ -11,11 +11,6 @@ use Rattle.script.proofs.network.copies.Goals.{then-is_on+in_ok-copy+in_ok-push,
 
 pub loop-letter-init : goal.loop-letter-init
 loop-letter-init c = ap (map contents) (c.new-taken.ensures.items ∙ sym (keep_none (is_on c.args.link)))
-
-pub returns : goal.returns
-returns c =
-    c.loop-letter.invariant
-    ∙ ap (λ (xs : List Letter). map contents (keep (is_on c.args.link) xs)) (take_all c.loop-letter.letter-index c.args.letters.now c.loop-letter-test.false)
 
 pub loop-letter-preserved : goal.loop-letter-preserved
 loop-letter-preserved c =

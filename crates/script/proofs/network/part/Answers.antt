@@ -8,13 +8,6 @@ use Rattle.script.specs.Network.{is_on, is_off}
 use Rattle.script.proofs.Kept.{takes, leaves, ends}
 use Rattle.script.proofs.network.part.Goals as goal
 
-pub loop-letter-init : goal.loop-letter-init
-loop-letter-init c =
-    let all = into_iter_items c.into_iter-letter-iterator.result in (
-      ap (λ (xs : List Letter). xs ++ keep (is_on c.args.link) all) (sym c.new-taken.ensures.items),
-      ap (λ (xs : List Letter). xs ++ keep (is_off c.args.link) all) (sym c.new-left.ensures.items),
-    )
-
 pub loop-letter-preserved-in-Continue-1 : goal.loop-letter-preserved-in-Continue-1
 loop-letter-preserved-in-Continue-1 c =
     let on = sym c.if-is_on.ensures in
