@@ -145,7 +145,7 @@ fn read_acts(heap: Global, text: &[u8]) -> Result<(Vec<Act>, &[u8]), Fault>
 {
     let mut acts = Vec::new(heap);
     let mut rest = text;
-    // kept: at the text's end no } comes and no act, and `do {` is refused for its braces, so the acts are counted
+    // kept: in an empty text there is neither a } nor an act, and `do {` must fail as Braces; a loop up to the } would fail as Act
     for _ in 0..text.len() {
         if at_brace(rest) {
             return Ok((acts, rest));

@@ -47,7 +47,7 @@ pub enum Forbidden {
     TooMany,
 }
 
-// kept: a derive would not state the text that the clause states
+// kept: `output` says which text each reason has; the derive says none, and a wrong text would be proved
 impl fmt::Display for Forbidden {
     ghost use Rattle.std.specs.Prelude.{Some};
     ghost use Rattle.script.specs.Said.{forbidden_said};

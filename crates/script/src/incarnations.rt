@@ -13,7 +13,7 @@ pub enum Unfit {
     WasThere,
 }
 
-// kept: a derive would not state the text that the clause states
+// kept: `output` says which text each reason has; the derive says none, and a wrong text would be proved
 impl fmt::Display for Unfit {
     ghost use Rattle.std.specs.Prelude.{Some};
     ghost use Rattle.script.specs.Said.{unfit_said};

@@ -1,6 +1,7 @@
 -- One byte on, in the writing and the reading of hexadecimal digits.
-use Rattle.std.proofs.Common.{◌≡◌, ℕ, ◌+◌, ◌-◌, ◌*◌, ◌/◌, ◌%◌, ◌<◌, ◌≤◌, List, [], ◌∷◌, ◌++◌, length, get_or, take, drop, Some, None, Ok, Err, Option, Result, sym, refl, ap, ◌∙◌, append_assoc, arith}
-use Rattle.std.proofs.lemmas.List.{take_more, length-drop}
+use Rattle.std.proofs.Common.{◌≡◌, ℕ, zero, suc, ◌+◌, ◌*◌, ◌/◌, ◌%◌, ◌<◌, ◌≤◌, List, [], ◌∷◌, ◌++◌, length, get_or, take, drop, Some, None, Ok, Err, Option, Result, sym, refl, ap, ◌∙◌, append_assoc, arith}
+use Rattle.std.specs.Simd.{first_chunks}
+use Rattle.std.proofs.lemmas.List.{take_more, length-drop, get_or-take, drop-drop}
 use Rattle.text.specs.declared.hex.HexFault.{HexFault}
 use Rattle.text.specs.declared.hex.HexFault.TheVariants.{Odd, Digit, Memory}
 use Rattle.text.specs.Hex.{hex_digit, hex_of, hex_value, unhex_from, byte_of, byte_before, bytes_before, Unhexed}
@@ -57,16 +58,40 @@ module _ (front : List ℕ) (j : ℕ) (rest : List ℕ) (two : 2 ≤ length rest
   pub byte_fault : (f : HexFault) → Err f ≡ byte_of j (hex_value (get_or rest 0 0)) (hex_value (get_or rest 1 0)) → bytes_before front (unhex_from j rest) ≡ Err f
   byte_fault f e = ap (bytes_before front) (pair_step j rest two) ∙ fault_of front j f _ _ _ e
 
-pub byte_next : (said : Result (List ℕ) HexFault) (front text rest others items : List ℕ) (b : ℕ) → 2 ≤ length rest → length rest ≤ length text → others ≡ drop 2 rest →
-    said ≡ bytes_before front (unhex_from (length text - length rest) rest) → Ok b ≡ byte_of (length text - length rest) (hex_value (get_or rest 0 0)) (hex_value (get_or rest 1 0)) →
-    items ≡ front ++ (b ∷ []) →
-    said ≡ bytes_before items (unhex_from (length text - length others) others)
-byte_next said front text rest others items b two within o s e p =
-    let on : length text - length rest + 2 ≡ length text - length others = omega (arith, ap length o, length-drop 2 rest) in
-    s
-    ∙ (byte_more front (length text - length rest) rest two b e
-    ∙ (ap (λ (ys : List ℕ). bytes_before (front ++ (b ∷ [])) (unhex_from (length text - length rest + 2) ys)) (sym o)
-    ∙ ap (λ (n : ℕ). bytes_before (front ++ (b ∷ [])) (unhex_from n others)) on ∙ ap (λ (xs : List ℕ). bytes_before xs (unhex_from (length text - length others) others)) (sym p)))
+-- the i-th pair of a text that is cut in pairs
+pair_of : (k i : ℕ) (xs : List ℕ) → i < k → get_or (first_chunks 2 k xs) i [] ≡ take 2 (drop (2 * i) xs)
+pair_of zero i xs h = absurd (omega arith)
+pair_of (suc k) zero xs h = refl
+pair_of (suc k) (suc i) xs h =
+    pair_of k i (drop 2 xs) (omega arith) ∙ ap (take 2) (drop-drop (2 * i) 2 xs ∙ ap (λ (n : ℕ). drop n xs) (let more : 2 + 2 * i ≡ 2 * suc i = omega arith in more))
+
+module _ (text : List ℕ) (pairs : List (List ℕ)) (cut : pairs ≡ first_chunks 2 (length text / 2) text) (many : length pairs ≡ length text / 2) (i : ℕ) (before : i < length pairs) where
+  digit_of : (j : ℕ) → j < 2 → get_or (get_or pairs i []) j 0 ≡ get_or (drop (2 * i) text) j 0
+  digit_of j h =
+      ap (λ (ps : List (List ℕ)). get_or (get_or ps i []) j 0) cut
+      ∙ (ap (λ (p : List ℕ). get_or p j 0) (pair_of (length text / 2) i text (omega arith)) ∙ get_or-take 2 (drop (2 * i) text) j 0 h)
+
+  read_at : (r : Result ℕ HexFault) → r ≡ byte_of (2 * i) (hex_value (get_or (get_or pairs i []) 0 0)) (hex_value (get_or (get_or pairs i []) 1 0)) →
+      r ≡ byte_of (2 * i) (hex_value (get_or (drop (2 * i) text) 0 0)) (hex_value (get_or (drop (2 * i) text) 1 0))
+  read_at r e = let high = digit_of 0 (omega arith) in let low = digit_of 1 (omega arith) in cc
+
+  two : 2 ≤ length (drop (2 * i) text)
+  two = omega (arith, length-drop (2 * i) text)
+
+  pub pair_fault : (front : List ℕ) (f : HexFault) → Err f ≡ byte_of (2 * i) (hex_value (get_or (get_or pairs i []) 0 0)) (hex_value (get_or (get_or pairs i []) 1 0)) →
+      bytes_before front (unhex_from (2 * i) (drop (2 * i) text)) ≡ Err f
+  pair_fault front f e = byte_fault front (2 * i) (drop (2 * i) text) two f (read_at (Err f) e)
+
+  pub pair_next : (said : Result (List ℕ) HexFault) (front items : List ℕ) (b : ℕ) → said ≡ bytes_before front (unhex_from (2 * i) (drop (2 * i) text)) →
+      Ok b ≡ byte_of (2 * i) (hex_value (get_or (get_or pairs i []) 0 0)) (hex_value (get_or (get_or pairs i []) 1 0)) →
+      items ≡ front ++ (b ∷ []) →
+      said ≡ bytes_before items (unhex_from (2 * (i + 1)) (drop (2 * (i + 1)) text))
+  pair_next said front items b s e p =
+      let on : 2 * i + 2 ≡ 2 * (i + 1) = omega arith in
+      s
+      ∙ (byte_more front (2 * i) (drop (2 * i) text) two b (read_at (Ok b) e)
+      ∙ (ap (λ (ys : List ℕ). bytes_before (front ++ (b ∷ [])) (unhex_from (2 * i + 2) ys)) (drop-drop 2 (2 * i) text)
+      ∙ (ap (λ (n : ℕ). bytes_before (front ++ (b ∷ [])) (unhex_from n (drop n text))) on ∙ ap (λ (xs : List ℕ). bytes_before xs (unhex_from (2 * (i + 1)) (drop (2 * (i + 1)) text))) (sym p))))
 
 pub unhexed_fault : (f : HexFault) (said : Result (List ℕ) HexFault) → said ≡ Err f → Unhexed (Err f) said
 unhexed_fault (Odd i) said e = e

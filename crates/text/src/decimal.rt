@@ -20,7 +20,7 @@ pub enum DecimalFault {
 }
 
 // Writes the number's digits behind what is there.
-// kept: a number prints itself; this puts what it prints behind other bytes
+// kept: where `write!` fails, nothing is known of what was there, and the clause says that it stays
 pub fn push_decimal(heap: Global, out: &mut Vec<u8>, n: u64) -> Result<(), AllocError>
     ensures { Pushed result out.old.items out.new.items (digits n) }
 {

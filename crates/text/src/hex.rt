@@ -49,7 +49,7 @@ pub fn hex_value(c: u8) -> Option<u8>
 }
 
 // Writes two digits for each byte behind what is there.
-// kept: by a Display, a text of all digits would be made first, and copied
+// kept: where `write!` fails, nothing is known of what was there, and the clause says that it stays
 pub fn push_hex(out: &mut Vec<u8>, bytes: &[u8]) -> Result<(), AllocError>
     ensures { Pushed result out.old.items out.new.items (hex_of bytes.now) }
 {
@@ -73,14 +73,12 @@ fn read_byte(at: usize, high: u8, low: u8) -> Result<u8, HexFault>
 pub fn read_hex(heap: Global, text: &[u8]) -> Result<Vec<u8>, HexFault>
     ensures { Unhexed result (unhex text.now) }
 {
+    let (pairs, last) = text.as_chunks::<2>();
     let mut out = Vec::new(heap);
-    let mut rest = text;
-    while let [high, low, others @ ..] = rest {
-        let byte = read_byte(text.len() - rest.len(), *high, *low)?;
-        out.push(byte)?;
-        rest = others;
+    for (i, [high, low]) in pairs.iter().enumerate() {
+        out.push(read_byte(2 * i, *high, *low)?)?;
     }
-    if rest.is_empty() {
+    if last.is_empty() {
         Ok(out)
     } else {
         Err(HexFault::Odd(text.len() - 1))

@@ -130,6 +130,7 @@ fn read_chars(heap: Global, text: &[u8], quoted: bool) -> Result<(Vec<u8>, &[u8]
 {
     let mut chars = Vec::new(heap);
     let mut rest = text;
+    // kept: a character takes one to four bytes and may be refused; from_fn and collect say the same in a closure
     while !is_over(rest, quoted) {
         let (c, next) = read_char(rest).ok_or(Wrong::Escape)?;
         chars.push(c)?;
@@ -179,6 +180,7 @@ fn read_names(heap: Global, text: &[u8]) -> Result<(Path, &[u8]), Fault>
 {
     let mut names = Vec::new(heap);
     let mut rest = text;
+    // kept: as for characters: how far a name reaches, and whether it is one, is known when it is read
     while !no_slash(rest) {
         let (name, next) = slash_name(heap, rest)?;
         names.push(name)?;

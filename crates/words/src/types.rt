@@ -5,7 +5,7 @@ ghost use Rattle.words.specs.declared.types.Fault.TheVariants as fault;
 use calls::types::Expected;
 use lent_bytes::counts::Session;
 use std::alloc::{AllocError, AllocFailed};
-use std::fmt;
+use thiserror::Error;
 
 #[derive(Drop)]
 pub struct Name(pub Vec<u8>);
@@ -46,61 +46,44 @@ pub enum Call {
 }
 
 // What is wrong with a line.
-#[derive(Clone, Copy, Debug, PartialEq, Eq)]
+#[derive(Clone, Copy, Debug, PartialEq, Eq, Error)]
 pub enum Wrong {
+    #[error("no such line, or not said so")]
     Command,
+    #[error("no such call")]
     Call,
+    #[error("no such call: make, put, drop, check, do, look, kids, open or end is wanted")]
     Act,
+    #[error("a number of 64 bits is wanted")]
     Number,
+    #[error("houses N is wanted, or houses N room BYTES, with 1 to 7 of them")]
     Houses,
+    #[error("a house's number is wanted, from 0 to 6")]
     House,
+    #[error("a path is wanted, as /gate/lock")]
     Path,
+    #[error("a name has one byte at least")]
     Name,
+    #[error("a value in quotes is wanted")]
     Value,
+    #[error("behind a backslash only \" \\ n and xHH are known")]
     Escape,
+    #[error("acts in braces are wanted, with a ; between them")]
     Braces,
+    #[error("something is left over at the line's end")]
     Behind,
+    #[error("longer than its length can be written")]
     Long,
-}
-
-// kept: the derive of thiserror would be a dependency more, for this one table
-impl fmt::Display for Wrong {
-    fn fmt<W: fmt::Write>(&self, f: &mut fmt::Formatter<W>) -> fmt::Result {
-        f.write_str(match self {
-            Wrong::Command => "no such line, or not said so",
-            Wrong::Call => "no such call",
-            Wrong::Act =>
-                "no such call: make, put, drop, check, do, look, kids, open or end is wanted",
-            Wrong::Number => "a number of 64 bits is wanted",
-            Wrong::Houses => "houses N is wanted, or houses N room BYTES, with 1 to 7 of them",
-            Wrong::House => "a house's number is wanted, from 0 to 6",
-            Wrong::Path => "a path is wanted, as /gate/lock",
-            Wrong::Name => "a name has one byte at least",
-            Wrong::Value => "a value in quotes is wanted",
-            Wrong::Escape => "behind a backslash only \" \\ n and xHH are known",
-            Wrong::Braces => "acts in braces are wanted, with a ; between them",
-            Wrong::Behind => "something is left over at the line's end",
-            Wrong::Long => "longer than its length can be written",
-        })
-    }
 }
 
 // Why a line is not read.
 // kept: both cases are errors, and no memory is no absence of one
-#[derive(Clone, Copy, Debug, PartialEq, Eq)]
+#[derive(Clone, Copy, Debug, PartialEq, Eq, Error)]
 pub enum Fault {
+    #[error("no memory")]
     Memory,
+    #[error(transparent)]
     Wrong(Wrong),
-}
-
-// kept: as for Wrong
-impl fmt::Display for Fault {
-    fn fmt<W: fmt::Write>(&self, f: &mut fmt::Formatter<W>) -> fmt::Result {
-        match self {
-            Fault::Memory => f.write_str("no memory"),
-            Fault::Wrong(why) => why.fmt(f),
-        }
-    }
 }
 
 // kept: clauses name the fault that ? makes, and only a From by hand says it
