@@ -27,6 +27,7 @@ fn reason(number: u8) -> &'static str
     }
 }
 
+// kept: a derive would not state the text
 impl fmt::Display for Refusal {
     ghost output = { λ r. Some (refused_spelled r.act r.reason) };
 
@@ -36,6 +37,7 @@ impl fmt::Display for Refusal {
     }
 }
 
+// kept: a derive would not state the text
 impl fmt::Display for Entry<'_> {
     ghost output = { λ e. Some (entry_spelled e.value.now e.version e.made e.changed e.kids e.session) };
 

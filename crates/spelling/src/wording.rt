@@ -17,12 +17,14 @@ fn is_plain(quoted: bool, c: u8) -> bool
 }
 
 // A byte of a value or a name.
+// kept: the byte is any byte, and no number for a kind
 #[derive(Clone, Copy)]
 struct Character {
     quoted: bool,
     byte: u8,
 }
 
+// kept: a derive would not state the text
 impl fmt::Display for Character {
     ghost output = { λ c. Some (char_spelled c.quoted c.byte) };
 
@@ -49,6 +51,7 @@ struct Characters<'a> {
     bytes: &'a [u8],
 }
 
+// kept: a derive would not state the text
 #[tactic(auto, unfolding(crate::specs::Spelled::many))]
 impl fmt::Display for Characters<'_> {
     ghost output = { λ c. Some (chars_spelled c.quoted c.bytes.now) };
@@ -68,6 +71,7 @@ impl fmt::Display for Characters<'_> {
 #[derive(Clone, Copy)]
 pub struct Quoted<'a>(pub &'a [u8]);
 
+// kept: a derive would not state the text
 impl fmt::Display for Quoted<'_> {
     ghost output = { λ v. Some (value_spelled v.0.now) };
 
@@ -84,6 +88,7 @@ impl fmt::Display for Quoted<'_> {
 #[derive(Clone, Copy)]
 pub struct Bare<'a>(pub &'a [u8]);
 
+// kept: a derive would not state the text
 impl fmt::Display for Bare<'_> {
     ghost output = { λ n. Some (chars_spelled false n.0.now) };
 
@@ -100,6 +105,7 @@ impl fmt::Display for Bare<'_> {
 pub struct InWords<'a, T>(pub &'a T);
 
 // A path of no names is a / alone.
+// kept: a derive would not state the text
 #[tactic(auto, unfolding(crate::specs::Spelled::many))]
 impl fmt::Display for InWords<'_, Path> {
     ghost output = { λ p. Some (path_spelled (path_of p.0.now)) };
@@ -116,6 +122,7 @@ impl fmt::Display for InWords<'_, Path> {
     }
 }
 
+// kept: a derive would not state the text
 impl fmt::Display for InWords<'_, Expected> {
     ghost output = { λ x. Some (expect_spelled (expect_of x.0.now)) };
 
@@ -137,6 +144,7 @@ fn numbered_word(numbered: bool) -> &'static str
 #[derive(Clone, Copy)]
 struct GoesWith(Session);
 
+// kept: a derive would not state the text
 impl fmt::Display for GoesWith {
     ghost output = { λ s. Some (session_spelled s.0.0) };
 
@@ -148,6 +156,7 @@ impl fmt::Display for GoesWith {
     }
 }
 
+// kept: a derive would not state the text
 #[tactic(auto, unfolding(crate::specs::Spelled::act_spelled))]
 impl fmt::Display for InWords<'_, Act> {
     ghost output = { λ a. Some (act_spelled (act_of a.0.now)) };
@@ -198,6 +207,7 @@ impl fmt::Display for InWords<'_, Act> {
 #[derive(Clone, Copy)]
 struct Braced<'a>(&'a [Act]);
 
+// kept: a derive would not state the text
 #[tactic(auto, unfolding(crate::specs::Spelled::many))]
 impl fmt::Display for Braced<'_> {
     ghost output = { λ l. Some (braced_spelled (map act_of l.0.now)) };
@@ -212,6 +222,7 @@ impl fmt::Display for Braced<'_> {
 }
 
 // One act stands alone, any other number of them in braces.
+// kept: a derive would not state the text
 impl fmt::Display for InWords<'_, Vec<Act>> {
     ghost output = { λ l. Some (do_spelled (map act_of l.0.now.items)) };
 
@@ -223,6 +234,7 @@ impl fmt::Display for InWords<'_, Vec<Act>> {
     }
 }
 
+// kept: a derive would not state the text
 #[tactic(auto, unfolding(crate::specs::Spelled::call_spelled))]
 impl fmt::Display for InWords<'_, Call> {
     ghost output = { λ c. Some (call_spelled (call_of c.0.now)) };
