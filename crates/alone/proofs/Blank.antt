@@ -2,7 +2,7 @@
 use Rattle.std.proofs.Common.{◌≡◌, ℕ, ◌+◌, ◌/◌, ◌≤◌, List, length, refl, arith}
 use Rattle.model.specs.Tree.{blank, weight_of}
 use Rattle.cells.specs.Fits.{Fits, rising}
-use Rattle.alone.specs.Standing.{Roomy, Speaks}
+use Rattle.alone.specs.Standing.{Roomy}
 
 pub blank_fits : (room : ℕ) → Fits room blank
 unfolding weight_of rising
@@ -10,6 +10,3 @@ blank_fits room = record { weighs = omega arith; few = omega arith; rises = refl
 
 pub enough : (room : ℕ) (bytes places : List ℕ) → length bytes ≡ room + 32796 → length places ≡ room / 1280 + 2 → room ≤ 67108864 → Roomy room bytes places
 enough room bytes places e f small = (omega arith, omega arith, omega arith)
-
-pub speaking : (room : ℕ) (reply : List ℕ) → length reply ≡ room + 65581 → room ≤ 67108864 → Speaks room 0 reply
-speaking room reply e small = (omega arith, omega arith, omega arith)

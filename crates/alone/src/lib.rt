@@ -109,6 +109,7 @@ impl Alone {
     }
 
     // Answers a call, and says whether there is an answer; where no more changes can be counted there is none, and the tree is what it was.
+    // kept: no clause can say what the replica is afterwards where a part of it is handed out, so the answer is read by reply
     pub fn ask(&mut self, call: &[u8]) -> bool
         ensures room { self.new.room ≡ self.old.room }
         ensures told { Told self.old.room call.now (stands_for self.old.tree.items self.old.used) result (stands_for self.new.tree.items self.new.used) (take self.new.said self.new.desk.reply.items) }

@@ -6,21 +6,27 @@ use Rattle.cells.specs.Fits.{Fits}
 use Rattle.content.specs.Content.{is_tree}
 use Rattle.alone.specs.Standing.{stands_for}
 use Rattle.alone.proofs.Turns.{same_length, written}
-use Rattle.alone.proofs.Blank.{blank_fits, enough, speaking}
+use Rattle.alone.proofs.Blank.{blank_fits, enough}
 use Rattle.alone.proofs.Alone.new.Goals as goal
 
-pub invariant_of-result : goal.invariant_of-result
-invariant_of-result c =
+pub invariant_of-result-clause-is : goal.invariant_of-result-clause-is
+invariant_of-result-clause-is c =
     let first =
     written c.min-room.result c.start_blank-size.new.out c.start_blank-size.new.places c.start_blank-size.result c.start_blank-size.ensures.drafts
     (subst (Fits c.min-room.result) (sym c.start_blank-size.ensures.state) (blank_fits c.min-room.result)) in
-    let same = with_items_is c.in_ok-tree.tree c.start_blank-size.new.out (c.start_blank-size.auto.out ∙ c.as_mut_slice.ensures.len) in record {
-      is = ap (λ (l : List ℕ). is_tree c.min-room.result (take c.start_blank-size.result.used l)) same ∙ first.0;
-      inside = omega (arith, c.start_blank-size.ensures.drafts.inside, ap length same);
-      first = enough c.min-room.result (vec_items (with_items c.in_ok-tree.tree c.start_blank-size.new.out)) (vec_items (with_items c.in_ok-last.last c.start_blank-size.new.places)) (same_length c.in_ok-tree.tree c.start_blank-size.new.out ∙ (sym c.in_ok-tree.tree.ok.0 ∙ c.in_ok-tree.ensures.len)) (same_length c.in_ok-last.last c.start_blank-size.new.places ∙ (sym c.in_ok-last.last.ok.0 ∙ c.in_ok-last.ensures.len)) (omega (arith, c.min-room.ensures));
-      second = enough c.min-room.result (vec_items c.in_ok-next.next) (vec_items c.in_ok-places.places) (sym c.in_ok-next.next.ok.0 ∙ c.in_ok-next.ensures.len) (sym c.in_ok-places.places.ok.0 ∙ c.in_ok-places.ensures.len) (omega (arith, c.min-room.ensures));
-      speaks = speaking c.min-room.result (vec_items c.in_ok-reply.reply) (sym c.in_ok-reply.reply.ok.0 ∙ c.in_ok-reply.ensures.len) (omega (arith, c.min-room.ensures));
-    }
+    let same = with_items_is c.in_ok-tree.tree c.start_blank-size.new.out (c.start_blank-size.auto.out ∙ c.as_mut_slice.ensures.len) in
+    ap (λ (l : List ℕ). is_tree c.min-room.result (take c.start_blank-size.result.used l)) same ∙ first.0
+
+pub invariant_of-result-clause-inside : goal.invariant_of-result-clause-inside
+invariant_of-result-clause-inside c =
+    let same = with_items_is c.in_ok-tree.tree c.start_blank-size.new.out (c.start_blank-size.auto.out ∙ c.as_mut_slice.ensures.len) in omega (arith, c.start_blank-size.ensures.drafts.inside, ap length same)
+
+pub invariant_of-result-clause-first : goal.invariant_of-result-clause-first
+invariant_of-result-clause-first c =
+    enough c.min-room.result (vec_items (with_items c.in_ok-tree.tree c.start_blank-size.new.out)) (vec_items (with_items c.in_ok-last.last c.start_blank-size.new.places))
+    (same_length c.in_ok-tree.tree c.start_blank-size.new.out ∙ (sym c.in_ok-tree.tree.ok.0 ∙ c.in_ok-tree.ensures.len))
+    (same_length c.in_ok-last.last c.start_blank-size.new.places ∙ (sym c.in_ok-last.last.ok.0 ∙ c.in_ok-last.ensures.len))
+    (omega (arith, c.min-room.ensures))
 
 pub returns : goal.returns
 returns c =
