@@ -11,6 +11,7 @@ fn array_at<const N: usize>(bytes: &[u8], at: usize) -> [u8; N]
 }
 
 // The number whose four bytes are at a place.
+#[tactic(auto, using(crate::proofs::Places::be32_at))]
 pub fn read_u32(bytes: &[u8], at: usize) -> u32
     requires { at + 4 ≤ length bytes.now }
     ensures { result ≡ be32 bytes.now at }
@@ -19,6 +20,7 @@ pub fn read_u32(bytes: &[u8], at: usize) -> u32
 }
 
 // The number whose eight bytes are at a place.
+#[tactic(auto, using(crate::proofs::Places::be64_at))]
 pub fn read_u64(bytes: &[u8], at: usize) -> u64
     requires { at + 8 ≤ length bytes.now }
     ensures { result ≡ be64 bytes.now at }
