@@ -2,8 +2,20 @@
 use Rattle.std.proofs.Common.{◌≡◌, ℕ, zero, suc, ◌+◌, ◌<◌, ◌≤◌, List, [], ◌∷◌, length, Some, None, Option, sym, refl, ap, ◌∙◌, subst, arith}
 use Rattle.model.specs.Tree.{Act, Make, Put, Drop, Check, values_in}
 use Rattle.calls.specs.Format.{and_then, act_at, acts_at, many_at}
-use Rattle.calls.specs.Reading.{acts_in, acts_or, past, rest}
+use Rattle.calls.specs.Reading.{act_read, acts_in, acts_or, past, rest}
+use Rattle.calls.specs.declared.types.Act as code
+use Rattle.std.specs.Borrow.{Bor}
+use Rattle.std.specs.Option.{option_map, IsSome}
 use Rattle.acts.specs.Several.{brought}
+
+-- where there is an act, it is read
+pub is_read : (r : Option (code.Act × Bor (List ℕ))) (o : Option (Act × List ℕ)) → option_map act_read r ≡ o → (o ≡ None → ⊥) → IsSome r
+is_read None o e some = absurd (some (sym e))
+is_read (Some a) o e some = refl
+
+-- what was read is what is there
+pub read_as : (r : Option (code.Act × Bor (List ℕ))) (a : code.Act × Bor (List ℕ)) (o : Option (Act × List ℕ)) → option_map act_read r ≡ o → r ≡ Some a → o ≡ Some (act_read a)
+read_as r a o e is = sym e ∙ ap (option_map act_read) is
 
 -- bytes are so many acts, these, and nothing else
 abbrev pub Reads : ℕ → List ℕ → List Act → Type 0

@@ -4,7 +4,6 @@ ghost use Rattle.std.specs.List.{AllByRecursion};
 ghost use Rattle.model.specs.Tree.{acts, does, values_in, Do};
 ghost use Rattle.calls.specs.Reading.{act_of, acts_in};
 ghost use Rattle.cells.specs.Entries.{tree_state};
-ghost use Rattle.cells.specs.Drafts.{bytes_in, places_in, Drafts};
 ghost use Rattle.cells.specs.Fits.{Fits, Suits};
 ghost use Rattle.tree.specs.Answers.{made_by, numbered};
 ghost use Rattle.tree.specs.Steps.{counting, weighed, Ready};
@@ -33,20 +32,6 @@ pub enum Stands {
 pub struct Refused {
     pub act: u8,
     pub refusal: Refusal,
-}
-
-// The tree that was written into a buffer.
-fn tree_in<'a>(out: &'a [u8], places: &'a [u32], size: Size) -> Tree<'a>
-    requires { Drafts out.now places.now size }
-    ensures bytes { result.bytes.now ≡ bytes_in out.now size }
-    ensures places { result.places.now ≡ places_in places.now size }
-{
-    let used = size.used;
-    let count = size.count + 1;
-    Tree {
-        bytes: &out[0..used],
-        places: &places[0..count],
-    }
 }
 
 // One act on the tree where it stands, written into the other buffer.
@@ -81,7 +66,7 @@ fn do_next(
         }
         Stands::Left(size) => {
             let base = Base {
-                tree: tree_in(left, lefts, size),
+                tree: size.tree_in(left, lefts),
                 room,
                 changes,
             };
@@ -90,7 +75,7 @@ fn do_next(
         }
         Stands::Right(size) => {
             let base = Base {
-                tree: tree_in(right, rights, size),
+                tree: size.tree_in(right, rights),
                 room,
                 changes,
             };
@@ -121,9 +106,7 @@ fn too_large(acts: Acts<'_>) -> bool
     let mut sum = 0;
     // kept: where the next act begins is known only once the last is read
     for n in 0..acts.count {
-        let Some((act, behind)) = read_act(rest) else {
-            unreachable!();
-        };
+        let (act, behind) = read_act(rest).unwrap();
         sum += value_len(act);
         if sum > 262144 {
             return true;
@@ -158,9 +141,7 @@ fn run_acts(
     let mut refused = None;
     // kept: a rule of the repository: acts are gone through by a labelled loop, left at the first that is refused
     'acts: for n in 0..acts.count {
-        let Some((act, behind)) = read_act(rest) else {
-            unreachable!();
-        };
+        let (act, behind) = read_act(rest).unwrap();
         let changes = if n + 1 == acts.count { after } else { before };
         match do_next(tree, room, act, changes, stands, left, lefts, right, rights) {
             Ok(next) => stands = next,

@@ -209,11 +209,11 @@ fn end(bytes: &[u8]) -> Option<Call<'_>>
     ensures { option_map call_of result ≡ end_at bytes.now }
 {
     let (session, rest) = number(bytes)?;
-    let session = wholly(session, rest)?;
-    Some(Call::End(Session(session)))
+    wholly(Call::End(Session(session)), rest)
 }
 
 // A call: all of the bytes are one, or it is none.
+// kept: a call is taken apart by match
 pub fn read_call(bytes: &[u8]) -> Option<Call<'_>>
     ensures { option_map call_of result ≡ decode_call bytes.now }
 {

@@ -7,23 +7,19 @@ ghost use Rattle.calls.specs.Screening.{plain_kind, core_call, front_not_built, 
 use crate::reading::{read_act, read_call};
 use crate::types::{ActKind, Acts, Call};
 
-// Why bytes that a client sent as a call are not let in: they are of a kind that isn't built yet, or no call.
+// Why bytes that a client sent as a call are not let in: they are no call, or of a kind that isn't built yet. Each with the number that is said to it.
 #[derive(Clone, Copy, PartialEq, Eq)]
 pub enum NotLetIn {
-    NotBuilt,
-    NoCall,
+    NoCall = 1,
+    NotBuilt = 12,
 }
 
 impl NotLetIn {
     // The number that is said to it.
-    // kept: both numbers are those of answers, in which others lie between them
     pub fn number(self) -> u8
         ensures { result ≡ number_of self }
     {
-        match self {
-            NotLetIn::NotBuilt => 12,
-            NotLetIn::NoCall => 1,
-        }
+        self as u8
     }
 }
 

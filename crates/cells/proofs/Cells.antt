@@ -1,12 +1,11 @@
 -- The cells that places cut out of memory, and the entries that they are. Assumes nothing.
-use Rattle.std.proofs.Common.{◌≡◌, ℕ, zero, suc, ◌+◌, ◌-◌, ◌<◌, Bool, List, [], ◌∷◌, length, get_or, Decides, refl, ◌∙◌, subst, add-one, arith}
+use Rattle.std.proofs.Common.{◌≡◌, ℕ, zero, suc, ◌+◌, ◌-◌, ◌<◌, Bool, List, [], ◌∷◌, length, get_or, Decides, refl, ap, ◌∙◌, add-one, arith}
 use Rattle.std.specs.List.{between}
 use Rattle.std.proofs.lemmas.List.{get_or-map, length-map}
 use Rattle.std.proofs.ByRecursion.{All-get_or}
-use Rattle.model.specs.Tree.{Entry, at}
+use Rattle.model.specs.Tree.{Entry, at, same_path}
 use Rattle.lent_bytes.proofs.Same.{same_path_lem}
 use Rattle.cells.specs.Layout.{cut, path_part, Formed, Holds, entry_of, entries_of}
-use Rattle.lent_bytes.specs.Numbers.{be32}
 use Rattle.lent_bytes.specs.Paths.{path_of, Spells}
 
 get_or_cut_suc : (mem ps : List ℕ) (i : ℕ) → suc i < length ps → get_or (cut mem ps) i [] ≡ between (get_or ps i 0) (get_or ps (suc i) 0) mem
@@ -25,9 +24,9 @@ length_cut mem [] = refl
 length_cut mem (o ∷ []) = refl
 length_cut mem (o ∷ e ∷ ps) = omega (arith, length_cut mem (e ∷ ps))
 
-pub at_cell : (c b : List ℕ) (n : ℕ) (r : Bool) → n ≡ be32 c 4 → Formed c → Spells b → Decides r (between 48 (48 + n) c ≡ b) → r ≡ at (path_of b) (entry_of c)
+pub at_cell : (c own b : List ℕ) (r : Bool) → own ≡ path_part c → Spells own → Spells b → Decides r (own ≡ b) → r ≡ at (path_of b) (entry_of c)
 unfolding entry_of
-at_cell c b n r e g s d = same_path_lem (path_part c) b r g.spells s (subst (λ (k : ℕ). Decides r (between 48 (48 + k) c ≡ b)) e d)
+at_cell c own b r e so s d = same_path_lem own b r so s d ∙ ap (λ (o : List ℕ). same_path (path_of b) (path_of o)) e
 
 module _ (mem ps : List ℕ) (i : ℕ) (in' : i + 1 < length ps) where
   pub entry_at : (d : Entry) → get_or (entries_of mem ps) i d ≡ entry_of (get_or (cut mem ps) i [])

@@ -76,25 +76,20 @@ impl<'a> Cell<'a> {
     pub fn is_at(self, path: Path<'_>) -> bool
         ensures { result ≡ at (path_of path.entry.names.now) (entry_of self.entry.bytes.now) }
     {
-        let len = read_u32(self.bytes, 4) as usize;
-        let own = &self.bytes[48..48 + len];
-        own == path.names
+        self.path().names == path.names
     }
 
     // Does the entry stand directly under that path.
     pub fn is_kid(self, path: Path<'_>) -> bool
         ensures { result ≡ is_kid (path_of path.entry.names.now) (entry_of self.entry.bytes.now) }
     {
-        let own = self.path().names;
-        let n = path.names.len();
-        if own.len() <= n {
+        // kept: the answer is a bool, so `?` can't hand on that nothing is found
+        let Some(rest) = self.path().names.strip_prefix(path.names) else {
             return false;
-        }
-        let (front, rest) = own.split_at(n);
-        if front == path.names {
-            rest[0] as usize + 1 == rest.len()
-        } else {
-            false
+        };
+        match rest.split_first() {
+            Some((len, name)) => *len as usize == name.len(),
+            None => false,
         }
     }
 }

@@ -49,6 +49,7 @@ fn place(bytes: &[u8]) -> Option<(Place, &[u8])>
 }
 
 // The refusal that a byte says.
+// kept: this is where the byte as it was read becomes a refusal
 fn refused(byte: u8) -> Option<Refusal>
     requires { 1 ≤ byte }
     ensures { result ≡ refused_by byte }
@@ -78,7 +79,7 @@ fn seats(bytes: &[u8]) -> Option<(Seats, &[u8])>
     }; 7];
     let mut outcomes = [None; 7];
     let mut rest = bytes;
-    // kept: seats are two arrays, and neither has anything to go over before it is filled
+    // kept: tried with places.iter_mut().zip(outcomes.iter_mut()): a proof knows nothing of what is written through them
     for i in 0..7usize {
         let (place, after) = place(rest)?;
         let (outcome, after) = outcome(after)?;
@@ -102,8 +103,7 @@ fn prepare(bytes: &[u8], all: u8) -> Option<Message<'_>>
     ensures { ReadBy (λ room bs. prepare_at room all bs) bytes.now result }
 {
     let (view, rest) = view(bytes, all)?;
-    let view = wholly(view, rest)?;
-    Some(Message::Prepare(view))
+    wholly(Message::Prepare(view), rest)
 }
 
 fn promise(bytes: &[u8], all: u8) -> Option<Message<'_>>
@@ -133,8 +133,7 @@ fn alive(bytes: &[u8], all: u8) -> Option<Message<'_>>
     let (id, rest) = id(bytes, all)?;
     let (chosen, rest) = flag(rest)?;
     let (named, rest) = number(rest)?;
-    let named = wholly(named, rest)?;
-    Some(Message::Alive { id, chosen, named })
+    wholly(Message::Alive { id, chosen, named }, rest)
 }
 
 fn accepted(bytes: &[u8], all: u8) -> Option<Message<'_>>
@@ -142,8 +141,7 @@ fn accepted(bytes: &[u8], all: u8) -> Option<Message<'_>>
 {
     let (id, rest) = id(bytes, all)?;
     let (incarnation, rest) = number(rest)?;
-    let incarnation = wholly(incarnation, rest)?;
-    Some(Message::Accepted { id, incarnation })
+    wholly(Message::Accepted { id, incarnation }, rest)
 }
 
 fn join(bytes: &[u8]) -> Option<Message<'_>>
@@ -151,11 +149,11 @@ fn join(bytes: &[u8]) -> Option<Message<'_>>
 {
     let (incarnation, rest) = number(bytes)?;
     let (replaces, rest) = number(rest)?;
-    let replaces = wholly(replaces, rest)?;
-    Some(Message::Join(Joining {
+    let joining = Joining {
         incarnation,
         replaces,
-    }))
+    };
+    wholly(Message::Join(joining), rest)
 }
 
 // A call that is handed on: it is all that is left of the bytes.
@@ -189,6 +187,7 @@ fn kind(bytes: &[u8]) -> Option<(u8, &[u8])>
 }
 
 // A message of this kind, behind the front: all of the bytes are one, or it is none.
+// kept: a letter is taken apart by match
 fn message(kind: Kind, bytes: &[u8], all: u8) -> Option<Message<'_>>
     ensures { ReadBy (λ room bs. word_by room all (kind_number kind) bs) bytes.now result }
 {

@@ -22,6 +22,7 @@ use tree::base::Base;
 use tree::refusal::Refusal;
 
 // One act, by its kind.
+// kept: an act is taken apart by match
 pub fn do_act(
     base: Base<'_>,
     act: Act<'_>,

@@ -1,14 +1,15 @@
 -- Seats that are written one behind the other: what a loop over them keeps. Assumes nothing.
 use Rattle.std.proofs.Common.{◌≡◌, ℕ, zero, suc, ◌+◌, ◌<◌, ◌≤◌, List, [], ◌∷◌, ◌++◌, length, get_or, take, Option, sym, refl, ap, ◌∙◌, append_assoc, append-nil, add-one, arith}
 use Rattle.std.proofs.lemmas.List.{take_all}
-use Rattle.lent_bytes.specs.Writing.{Added}
+use Rattle.lent_bytes.specs.Writers.{Wrote}
+use Rattle.lent_bytes.specs.declared.writing.Writer.{Writer}
 use Rattle.service.specs.Service.{Outcome}
 use Rattle.agreement.specs.declared.Place.{Place}
 use Rattle.wire.specs.Messages.{seat_bytes, seats_bytes}
 
-pub seats_begun : (at : ℕ) (out : List ℕ) → Added at out (seats_bytes [] []) at out
+pub seats_begun : (out : Writer) → Wrote out (seats_bytes [] []) out
 unfolding seats_bytes
-seats_begun at out = record { ends = omega arith; front = sym (append-nil (take at out)); long = refl }
+seats_begun out = record { same = refl; added = record { ends = omega arith; front = sym (append-nil (take out.used out.out.now)); long = refl } }
 
 pushed : (i : ℕ) (ps : List Place) (ks : List (Option Outcome)) (d : Place) (e : Option Outcome) → i < length ps → i < length ks →
     seats_bytes (take (suc i) ps) (take (suc i) ks) ≡ seats_bytes (take i ps) (take i ks) ++ seat_bytes (get_or ps i d) (get_or ks i e)

@@ -106,8 +106,8 @@ fn push_expected(out: &mut Vec<u8>, expected: Expected) -> Result<(), AllocError
     }
 }
 
-#[tactic(auto, unfolding(lent_bytes::specs::Numbers::be8), using(crate::proofs::Pushes::flag_is))]
 // Is it numbered, and the session that it goes with.
+#[tactic(auto, unfolding(lent_bytes::specs::Numbers::be8), using(crate::proofs::Pushes::flag_is))]
 fn push_owner(out: &mut Vec<u8>, numbered: bool, session: Session) -> Result<(), AllocError>
     ensures { OnOk result (out.new.items ≡ out.old.items ++ (flag_written numbered ∷ be8 session.0)) }
 {

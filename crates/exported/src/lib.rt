@@ -36,8 +36,8 @@ fn used_by(current: Current<'_>, act: Act<'_>, out: &mut [u8], places: &mut [u32
     }
 }
 
-// kept: C hands over bytes and places, so what a tree and a path keep is asked of it here
 // Puts a value; how many bytes the next tree takes, or 0.
+// kept: C hands over bytes and places, so what a tree and a path keep is asked of it here
 #[unsafe(no_mangle)]
 pub extern "C" fn tree_put<'t, 'c>(
     bytes: &'t [u8],
@@ -66,8 +66,8 @@ pub extern "C" fn tree_put<'t, 'c>(
     used_by(current, act, out, lent)
 }
 
-// kept: as above
 // Makes an entry; how many bytes the next tree takes, or 0.
+// kept: C hands over bytes and places, as above
 #[unsafe(no_mangle)]
 pub extern "C" fn tree_make<'t, 'c>(
     bytes: &'t [u8],
@@ -99,8 +99,8 @@ pub extern "C" fn tree_make<'t, 'c>(
     used_by(current, act, out, lent)
 }
 
-// kept: as above
 // Looks for an entry; how long its value is, or 2^32.
+// kept: C hands over bytes and places, as above
 #[unsafe(no_mangle)]
 pub extern "C" fn tree_look<'t>(bytes: &'t [u8], places: &'t [u32], path: &[u8]) -> u64
     requires holds { Holds bytes.now places.now }

@@ -1,8 +1,8 @@
 -- A path and its last name; a path that is another and one name more, and how its bytes show that. Assumes nothing.
-use Rattle.std.proofs.Common.{◌≡◌, ℕ, ◌+◌, ◌<◌, ◌≤◌, Bool, true, not, ◌&&◌, eqb, List, [], ◌∷◌, ◌++◌, length, get_or, take, Decides, sym, refl, ap, ◌∙◌, append-nil, arith, length-append}
+use Rattle.std.proofs.Common.{◌≡◌, ◌≢◌, ℕ, ◌+◌, ◌<◌, Bool, true, not, ◌&&◌, eqb, List, [], ◌∷◌, ◌++◌, length, get_or, Decides, sym, refl, ap, ◌∙◌, append-nil, arith, length-append}
 use Rattle.std.proofs.lemmas.Bool.{and_parts, and_from, eqb-true, eq-eqb}
 use Rattle.std.proofs.lemmas.Bool.Decides.{same_from_decides}
-use Rattle.std.proofs.lemmas.List.{take_at, append_cancel_left}
+use Rattle.std.proofs.lemmas.List.{append_cancel_left}
 use Rattle.model.specs.Tree.{Name, Path, none, above, last_name, same_path}
 use Rattle.lent_bytes.specs.Paths.{path_of, path_bytes, Spells}
 use Rattle.lent_bytes.proofs.Same.{same_path_decides}
@@ -68,18 +68,21 @@ module _ (own path : List ℕ) (so : Spells own) (sp : Spells path) where
   pub kid_decides : (r : Bool) → Decides r (Under (path_of path) (path_of own)) → r ≡ (not (none (path_of own)) && same_path (path_of path) (above (path_of own)))
   kid_decides r d = same_from_decides r (not (none (path_of own)) && same_path (path_of path) (above (path_of own))) d (under_decides (path_of path) (path_of own))
 
+  -- what is behind the path's bytes, if they are in front
+  left_is : (rest : List ℕ) → own ≡ path ++ rest → (u : Under (path_of path) (path_of own)) → (n : Name) × (rest ≡ length n ∷ n)
+  left_is rest e u = let b = bytes_under u in (b.0, append_cancel_left path rest (length b.0 ∷ b.0) (sym e ∙ b.1))
+
   -- the three ways of the code
-  pub too_short : length own ≤ length path → Under (path_of path) (path_of own) → ⊥
-  too_short l u = let b = bytes_under u in omega (arith, ap length b.1, length-append path (length b.0 ∷ b.0))
+  pub other_front : ((rest : List ℕ) → own ≢ path ++ rest) → Under (path_of path) (path_of own) → ⊥
+  other_front differ u = let b = bytes_under u in differ (length b.0 ∷ b.0) b.1
 
-  pub other_front : (take (length path) own ≡ path → ⊥) → Under (path_of path) (path_of own) → ⊥
-  other_front ne u = let b = bytes_under u in ne (ap (take (length path)) b.1 ∙ take_at path (length b.0 ∷ b.0) (length path) refl)
+  pub nothing_left : (rest : List ℕ) → own ≡ path ++ rest → length rest ≡ 0 → Under (path_of path) (path_of own) → ⊥
+  nothing_left rest e l u = let z = left_is rest e u in omega (arith, l, ap length z.1)
 
-  pub one_name_left : (rest : List ℕ) → own ≡ path ++ rest → 0 < length rest → Decides (eqb (get_or rest 0 0 + 1) (length rest)) (Under (path_of path) (path_of own))
-  one_name_left rest e s = (
-    λ t. under_bytes rest e s (eqb-true (get_or rest 0 0 + 1) (length rest) t),
+  pub one_name_left : (b : ℕ) (name : List ℕ) → own ≡ path ++ b ∷ name → Decides (eqb b (length name)) (Under (path_of path) (path_of own))
+  one_name_left b name e = (
+    λ t. under_bytes (b ∷ name) e (omega arith) (omega (arith, eqb-true b (length name) t)),
     λ u.
-        let b = bytes_under u in
-        let is : rest ≡ length b.0 ∷ b.0 = append_cancel_left path rest (length b.0 ∷ b.0) (sym e ∙ b.1) in
-        eq-eqb (get_or rest 0 0 + 1) (length rest) (omega (arith, ap length is, ap (λ (r : List ℕ). get_or r 0 0) is)),
+        let z = left_is (b ∷ name) e u in
+        eq-eqb b (length name) (omega (arith, ap length z.1, ap (λ (r : List ℕ). get_or r 0 0) z.1)),
   )

@@ -1,3 +1,4 @@
 pub mod Numbers
 pub mod Paths
 pub mod Writing
+pub mod Writers

@@ -16,7 +16,7 @@ pub fn check_path(path: &[u8]) -> bool
 {
     let mut at = 0;
     let mut count = 0u8;
-    // kept: how far a name goes is read from the bytes, so there is nothing to go over by one
+    // kept: the bytes may spell no path: an iterator over names would have to say as well whether they broke off, and be no plainer
     while at < path.len() {
         let n = path[at] as usize;
         if n == 0 || n > 64 || n >= path.len() - at || count >= 16 {
@@ -44,7 +44,7 @@ impl<'a> Path<'a> {
         let names = self.names;
         let mut at = 0;
         let mut end = 1 + names[0] as usize;
-        // kept: as above
+        // kept: the place of the last name is asked for, and names from an iterator have none: it would be counted back from the end
         while end < names.len() {
             at = end;
             end = at + 1 + names[at] as usize;

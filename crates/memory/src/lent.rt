@@ -30,6 +30,7 @@ pub enum Side {
 
 impl Side {
     // The room beside it.
+    // kept: std turns no enum of two cases over, and a bool would say less than their names
     pub fn other(self) -> Side
         ensures { result ≡ other_side self }
     {

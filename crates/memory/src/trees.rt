@@ -1,6 +1,5 @@
 // The tree that stands, and the next beside it.
 ghost use Rattle.std.specs.Prelude.{◌≡◌, length};
-ghost use Rattle.cells.specs.Drafts.{Drafts, bytes_in, places_in};
 ghost use Rattle.cells.specs.Fits.{Suits};
 ghost use Rattle.service.specs.Service.{is_calm};
 ghost use Rattle.memory.specs.Keeps.{standing, state_in, Stands, Sound, HeldAs, TakenTo, TakenBeside, AcceptedAs, Unmoved, turned_to};
@@ -10,28 +9,14 @@ use cells::draft::Size;
 use cells::held::Tree;
 use lent_bytes::writing::append_bytes;
 
-// A tree that lies at the front of a buffer.
-fn front<'b>(bytes: &'b [u8], places: &'b [u32], size: Size) -> Tree<'b>
-    requires { Drafts bytes.now places.now size }
-    ensures bytes { result.bytes.now ≡ bytes_in bytes.now size }
-    ensures places { result.places.now ≡ places_in places.now size }
-{
-    let used = size.used;
-    let end = size.count + 1;
-    Tree {
-        bytes: &bytes[0..used],
-        places: &places[0..end],
-    }
-}
-
 // The tree that stands.
 pub fn tree<'b>(kept: Kept, memory: &'b Memory) -> Tree<'b>
     requires { Stands kept.room (standing kept memory.now) }
     ensures { HeldAs kept.room (state_in kept memory.now) result.bytes.now result.places.now }
 {
     match kept.stands {
-        Side::Left => front(memory.left.bytes, memory.left.places, kept.size),
-        Side::Right => front(memory.right.bytes, memory.right.places, kept.size),
+        Side::Left => kept.size.tree_in(memory.left.bytes, memory.left.places),
+        Side::Right => kept.size.tree_in(memory.right.bytes, memory.right.places),
     }
 }
 

@@ -1,14 +1,12 @@
 -- The tree is a service that replicas can keep: what is kept of a write says its answer, looking leaves the tree, what is answered at once does not depend on the tree, and no answer is busy. Assumes nothing.
-use Rattle.std.proofs.Common.{◌≡◌, ℕ, ◌<◌, ◌≤◌, Bool, true, false, cond, not, ◌||◌, eqb, ltb, List, [], ◌∷◌, Some, None, Option, sym, refl, ap, ◌∙◌, subst, inl, inr, arith, Ok, Err, Result}
+use Rattle.std.proofs.Common.{◌≡◌, ℕ, ◌≤◌, Bool, true, false, cond, not, ◌||◌, eqb, ltb, List, [], ◌∷◌, Some, None, Option, sym, refl, ap, ◌∙◌, subst, inl, inr, arith, Ok, Err}
 use Rattle.std.proofs.lemmas.Bool.{cond_both, cond-true, cond-false, false≢true, eqb-true}
 use Rattle.std.proofs.lemmas.Bool.Decides.{nat_tests}
 use Rattle.std.specs.Option.{option_map}
 use Rattle.model.specs.Tree.{State, Act, Make, Put, Drop, Check, Call, Do, Look, Kids, Open, End, Reply, No, Done, Entry', Names, Session, Entry, does, core, one, told, find, at, there, path_ok, none, unless, acts, Step, Bad, stepped, goes, all_of, closed, values_in, kid_names, Out}
 use Rattle.calls.specs.Format.{encode_reply, decode_call}
 use Rattle.calls.specs.Screening.{Screen, NotBuilt, NoCall, LetIn, screened, decoded, front_not_built}
-use Rattle.std.specs.Result.{result_unwrap_or}
-use Rattle.tree.specs.Answers.{reason, IsNumbered}
-use Rattle.tree.specs.declared.refusal.NoRefusal.{NoRefusal}
+use Rattle.tree.specs.Answers.{reason}
 use Rattle.tree.specs.declared.refusal.Refusal.{Refusal}
 use Rattle.tree.specs.declared.refusal.Refusal.TheVariants.{OutOfRange, NotThere, AlreadyThere, OtherVersion, HasKids, NoSession, UnderSession, UsedUp, Full}
 use Rattle.service.specs.Service.{Outcome, reply_to, next_to, act_in_range, in_range, at_once, looks, refusal_of, outcome_of, keep_to, say_to, screened_call, lines, calls}
@@ -198,17 +196,3 @@ refusal_round Full = refl
 
 pub refusal_back : (k : Refusal) → Err k ≡ outcome_of (No 0 (reason k))
 refusal_back k = ap (λ (x : Refusal). Err x) (refusal_round k)
-
--- any other number is taken for the last
-other_number : (n k : ℕ) (r rest : Refusal) → (n ≡ k → ⊥) → Full ≡ rest → Full ≡ cond (eqb n k) r rest
-other_number n k r rest d e = cond_both (eqb n k) r rest (λ (x : Refusal). Full ≡ x) (λ b. absurd (d (eqb-true n k b))) (λ b. e)
-
-no_number : (n : ℕ) → (0 < n → n ≤ 9 → ⊥) → Full ≡ refusal_of n
-no_number n h =
-    let not : (k : ℕ) → 0 < k → k ≤ 9 → n ≡ k → ⊥ = λ k low high e. h (omega arith) (omega arith) in
-    other_number n 1 _ _ (not 1 (omega arith) (omega arith)) (other_number n 2 _ _ (not 2 (omega arith) (omega arith)) (other_number n 3 _ _ (not 3 (omega arith) (omega arith)) (other_number n 4 _ _ (not 4 (omega arith) (omega arith))
-    (other_number n 5 _ _ (not 5 (omega arith) (omega arith)) (other_number n 6 _ _ (not 6 (omega arith) (omega arith)) (other_number n 7 _ _ (not 7 (omega arith) (omega arith)) (other_number n 8 _ _ (not 8 (omega arith) (omega arith)) refl)))))))
-
-pub numbered_is : (n : ℕ) (r : Result Refusal NoRefusal) → IsNumbered n r → result_unwrap_or r Full ≡ refusal_of n
-numbered_is n (Ok k) e = refusal_round k ∙ ap refusal_of e
-numbered_is n (Err x) e = no_number n e.1

@@ -6,6 +6,8 @@ use borrow.Rule.Slice.PartMut.{post_of, put_mid}
 use Rattle.lent_bytes.specs.Numbers.{be4}
 use Rattle.lent_bytes.proofs.Rounds.{length_be4}
 use Rattle.lent_bytes.specs.Writing.{Added}
+use Rattle.lent_bytes.specs.Writers.{Wrote}
+use Rattle.lent_bytes.specs.declared.writing.Writer.{Writer}
 use Rattle.lent_bytes.proofs.PathBytes.{path_is, spells_is}
 use Rattle.lent_bytes.specs.Paths.{path_of, path_bytes, Spells}
 use Rattle.calls.specs.Format.{encode_reply}
@@ -13,6 +15,13 @@ use Rattle.service.specs.Answering.{Says}
 
 pub said : (r : Reply) (was bytes now : List ℕ) (to : ℕ) → Added 0 was bytes to now → length bytes ≤ length was → bytes ≡ encode_reply r → Says r now to
 said r was bytes now to a h e = record { inside = omega (arith, a.ends, a.long); bytes = a.front ∙ e }
+
+-- the same of a writer that began with nothing
+pub said_in : (r : Reply) (begun : Writer) (bytes : List ℕ) (ended : Writer) → begun.used ≡ 0 → Wrote begun bytes ended → ended.used ≤ length begun.out.now → bytes ≡ encode_reply r → Says r ended.out.now ended.used
+said_in r begun bytes ended none w h e = record {
+  inside = omega (arith, w.added.long);
+  bytes = w.added.front ∙ ap (λ (n : ℕ). take n begun.out.now ++ bytes) none ∙ e;
+}
 
 -- COUNTING NAMES: what is left spells what is left of the path
 pub record Counted (path left : List ℕ) (count : ℕ) : Type 0 where

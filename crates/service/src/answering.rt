@@ -11,7 +11,7 @@ use crate::outcome::Outcome;
 use calls::types::{Act, ActKind};
 use cells::held::Tree;
 use lent_bytes::paths::Path;
-use lent_bytes::writing::{append_bytes, append_u32, append_u64};
+use lent_bytes::writing::Writer;
 use tree::looking::{Seen, kids, look};
 
 // The answer to what is refused.
@@ -20,7 +20,9 @@ pub fn say_refused(number: u8, out: &mut [u8]) -> usize
     requires { 3 ≤ length out.old }
     ensures { Says (No 0 number) out.new result }
 {
-    append_bytes(out, 0, &[0, 0, number])
+    let mut answer = Writer::new(out);
+    answer.bytes(&[0, 0, number]);
+    answer.used
 }
 
 // The answer to what was done and made nothing.
@@ -28,7 +30,9 @@ fn say_done(out: &mut [u8]) -> usize
     requires { 2 ≤ length out.old }
     ensures { Says (Done []) out.new result }
 {
-    append_bytes(out, 0, &[1, 0])
+    let mut answer = Writer::new(out);
+    answer.bytes(&[1, 0]);
+    answer.used
 }
 
 // How many names a path has.
@@ -51,8 +55,10 @@ fn say_made(path: Path<'_>, out: &mut [u8]) -> usize
     requires room { 3 + length path.names.now ≤ length out.old }
     ensures { Says (Done (path_now path.entry ∷ [])) out.new result }
 {
-    let a = append_bytes(out, 0, &[1, 1, count_names(path)]);
-    append_bytes(out, a, path.names)
+    let mut answer = Writer::new(out);
+    answer.bytes(&[1, 1, count_names(path)]);
+    answer.bytes(path.names);
+    answer.used
 }
 
 // The answer to a look at an entry.
@@ -61,14 +67,16 @@ fn say_entry(seen: Seen, out: &mut [u8]) -> usize
     requires room { 45 + length seen.value.now ≤ length out.old }
     ensures { Says (Entry' seen.entry.value.now seen.entry.head.version.0 seen.entry.head.made.0 seen.entry.head.changed.0 seen.entry.head.kids.0 seen.entry.head.owner.0) out.new result }
 {
-    let a = append_bytes(out, 0, &[2]);
-    let b = append_u32(out, a, seen.value.len() as u32);
-    let c = append_bytes(out, b, seen.value);
-    let d = append_u64(out, c, seen.head.version.0);
-    let e = append_u64(out, d, seen.head.made.0);
-    let f = append_u64(out, e, seen.head.changed.0);
-    let g = append_u64(out, f, seen.head.kids.0);
-    append_u64(out, g, seen.head.owner.0)
+    let mut answer = Writer::new(out);
+    answer.bytes(&[2]);
+    answer.u32(seen.value.len() as u32);
+    answer.bytes(seen.value);
+    answer.u64(seen.head.version.0);
+    answer.u64(seen.head.made.0);
+    answer.u64(seen.head.changed.0);
+    answer.u64(seen.head.kids.0);
+    answer.u64(seen.head.owner.0);
+    answer.used
 }
 
 // The answer to a call for the names under a path.

@@ -22,6 +22,7 @@ pub enum Asked<'a> {
 }
 
 // Why a call is refused at once, whatever the tree is: its bytes are not let in, or what it asks is out of range.
+// kept: an error that holds the error of the reader, and one more of its own; an Option would give that one no name
 #[derive(Clone, Copy, PartialEq, Eq)]
 pub enum AtOnce {
     NotLetIn(NotLetIn),
@@ -40,6 +41,7 @@ impl AtOnce {
     }
 }
 
+// kept: std derives no From, and a function that ends by `?` needs what it gives
 impl From<NotLetIn> for AtOnce {
     ghost from_gives = { λ why k. k ≡ not_let_in why };
 
@@ -48,19 +50,17 @@ impl From<NotLetIn> for AtOnce {
     }
 }
 
+// The refusal that is kept of a write that was refused at once; what isn't built has none of its own.
+// kept: std derives no From, and the clause says which refusal is whose
 impl From<AtOnce> for Refusal {
     ghost from_gives = { λ why k. k ≡ refusal_of (told_at_once why) };
 
     fn from(why: AtOnce) -> Refusal {
-        refusal_of(why.number())
+        match why {
+            AtOnce::NotLetIn(NotLetIn::NoCall) | AtOnce::OutOfRange => Refusal::OutOfRange,
+            AtOnce::NotLetIn(NotLetIn::NotBuilt) => Refusal::Full,
+        }
     }
-}
-
-// The refusal of a number; any other number is none of a write's.
-fn refusal_of(number: u8) -> Refusal
-    ensures { result ≡ refusal_of number }
-{
-    Refusal::try_from(number).unwrap_or(Refusal::Full)
 }
 
 // Is a path that of the top.
@@ -112,6 +112,7 @@ fn the_act(acts: Acts<'_>) -> Act<'_>
 }
 
 // What a call of the core asks.
+// kept: a call is taken apart by match
 fn asked_by(call: Call<'_>) -> Asked<'_>
     requires { core (call_of call) ≡ true }
     ensures call { call_of call.entry ≡ asked_call result }

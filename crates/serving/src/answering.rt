@@ -16,6 +16,7 @@ use service::asking::{Asked, ask};
 use service::outcome::Outcome;
 
 // What is said to a call, from a tree and from what was kept of the call.
+// kept: a call is taken apart by match
 fn say(
     tree: Tree,
     room: u64,

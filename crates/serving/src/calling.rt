@@ -42,7 +42,7 @@ fn write_call(
     }
 }
 
-// A room of no bytes, which stands in while another is taken out.
+// A room of no bytes, left where another was while that one is written.
 fn no_room<'b, 'p>() -> TreeRoom<'b, 'p> {
     TreeRoom {
         bytes: &mut [],

@@ -36,6 +36,7 @@ impl TryFrom<u8> for Refusal {
     ghost try_from_gives = { IsNumbered };
 
     fn try_from(number: u8) -> Result<Refusal, NoRefusal> {
+        // kept: a number is no step to run, and std has no way from it to an enum
         match number {
             1 => Ok(Refusal::OutOfRange),
             2 => Ok(Refusal::NotThere),

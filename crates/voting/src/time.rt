@@ -8,8 +8,8 @@ use crate::quorum::more_than_half;
 use crate::replicas::Replica;
 use agreement::{Agreement, Role};
 
-// kept: each of the two states one test of the machine; a test over any role would be the derived `==` under another name.
 // Is it the leader of its view.
+// kept: each of the three states one test of the machine; a test over any role would be the derived `==` under another name
 pub fn is_leader(role: Role) -> bool
     ensures { result ≡ is_leader role }
 {

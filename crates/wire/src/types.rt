@@ -37,6 +37,7 @@ impl TryFrom<u8> for Kind {
     ghost try_from_gives = { IsKind };
 
     fn try_from(number: u8) -> Result<Kind, NoKind> {
+        // kept: a number is no step to run, and std has no way from it to an enum
         match number {
             1 => Ok(Kind::Prepare),
             2 => Ok(Kind::Promise),

@@ -1,7 +1,7 @@
 use Rattle.std.proofs.lemmas.Slice.Eq.{slice_eq-Decides}
+use Rattle.std.proofs.lemmas.Bool.Decides.{Decides-eqb}
 use Rattle.cells.proofs.Cells.{at_cell}
 use Rattle.cells.proofs.cell.Cell.is_at.Goals as goal
-use Rattle.std.proofs.lemmas.Bool.Decides.{Decides-eqb}
 
 pub returns : goal.returns
-returns c = at_cell _ _ _ _ c.read_u32-len.ensures c.args.self.formed c.args.path.spells (slice_eq-Decides Decides-eqb _ _ _ c.eq.ensures)
+returns c = at_cell _ _ _ _ c.path.ensures.value c.path.result.spells c.args.path.spells (slice_eq-Decides Decides-eqb _ _ _ c.eq.ensures)

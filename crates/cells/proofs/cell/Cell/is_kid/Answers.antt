@@ -1,25 +1,30 @@
-use Rattle.std.proofs.Common.{◌++◌, ap, ◌∙◌, arith}
-use Rattle.std.proofs.lemmas.Slice.Eq.{slice_eq-Decides}
-use Rattle.std.proofs.lemmas.Bool.Decides.{not_from_Decides, Decides-eqb}
+use Rattle.std.proofs.Common.{◌++◌, Some, None, ap, ◌∙◌}
+use Rattle.std.proofs.lemmas.Slice.Eq.{strip_prefix_is}
+use Rattle.std.proofs.lemmas.Bool.Decides.{Decides-eqb}
 use Rattle.lent_bytes.proofs.Walks.{refused}
-use Rattle.lent_bytes.proofs.Above.{too_short, other_front, one_name_left}
+use Rattle.lent_bytes.proofs.Above.{other_front, nothing_left, one_name_left}
 use Rattle.cells.proofs.Kids.{kid_is}
 use Rattle.cells.proofs.cell.Cell.is_kid.Goals as goal
 
-pub returns-then-own-n : goal.returns-then-own-n
-returns-then-own-n c =
-    let own = c.path.ensures in
-    kid_is _ _ _ _ own.value c.path.result.spells c.args.path.spells (refused (too_short _ _ c.path.result.spells c.args.path.spells c.if-own-n.true))
+pub returns-in_default : goal.returns-in_default
+returns-in_default c =
+    let own = c.path.result.names.now in
+    let path = c.args.path.names.now in
+    kid_is _ _ _ _ c.path.ensures.value c.path.result.spells c.args.path.spells
+    (refused (other_front own path c.path.result.spells c.args.path.spells (strip_prefix_is Decides-eqb own path None c.in_default.ensures.cases)))
 
-pub returns-then-eq : goal.returns-then-eq
-returns-then-eq c =
-    let own = c.path.ensures in
-    let parts = c.split_at.ensures in
-    let same = (slice_eq-Decides Decides-eqb _ _ _ c.eq.ensures).0 c.if-eq.true in
-    kid_is _ _ _ _ own.value c.path.result.spells c.args.path.spells (one_name_left _ _ c.path.result.spells c.args.path.spells c.split_at.result.1.now (parts.by_index.0 ∙ ap (λ l. l ++ c.split_at.result.1.now) same) (omega (arith, parts.back_len)))
+pub returns-in-Some-split_first : goal.returns-in-Some-split_first
+returns-in-Some-split_first c =
+    let own = c.path.result.names.now in
+    let path = c.args.path.names.now in
+    let front = strip_prefix_is Decides-eqb own path (Some c.in-Some.rest) c.in-Some.ensures.cases in
+    kid_is _ _ _ _ c.path.ensures.value c.path.result.spells c.args.path.spells
+    (one_name_left own path c.path.result.spells c.args.path.spells _ _ (front ∙ ap (λ l. path ++ l) c.in-Some-split_first.ensures.cases.0))
 
-pub returns-else-eq : goal.returns-else-eq
-returns-else-eq c =
-    let own = c.path.ensures in
-    let no = not_from_Decides _ (slice_eq-Decides Decides-eqb _ _ _ c.eq.ensures) c.if-eq.false in
-    kid_is _ _ _ _ own.value c.path.result.spells c.args.path.spells (refused (other_front _ _ c.path.result.spells c.args.path.spells (λ e. no (c.split_at.ensures.front ∙ e))))
+pub returns-in-None : goal.returns-in-None
+returns-in-None c =
+    let own = c.path.result.names.now in
+    let path = c.args.path.names.now in
+    let front = strip_prefix_is Decides-eqb own path (Some c.in-Some.rest) c.in-Some.ensures.cases in
+    kid_is _ _ _ _ c.path.ensures.value c.path.result.spells c.args.path.spells
+    (refused (nothing_left own path c.path.result.spells c.args.path.spells _ front c.in-None.ensures.cases))
