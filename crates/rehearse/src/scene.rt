@@ -36,8 +36,10 @@ impl Scene {
         println!(rt; "line {line}: {why}")
     }
 
+    // An incarnation was drawn, or named; nothing else changes.
     pub fn draw(&mut self, incarnation: u64) -> Result<(), AllocError>
-        ensures { OnOk result ((self.new.drawn.items ≡ self.old.drawn.items ++ (incarnation ∷ [])) × (self.new.houses ≡ self.old.houses)) }
+        ensures drawn { OnOk result (self.new.drawn.items ≡ self.old.drawn.items ++ (incarnation ∷ [])) }
+        ensures kept { (self.new.line ≡ self.old.line) × (self.new.houses ≡ self.old.houses) × (self.new.letters ≡ self.old.letters) }
     {
         self.drawn.push(incarnation)?;
         Ok(())
