@@ -63,7 +63,8 @@ fn take_letters(
     scene: &mut Scene,
     link: Option<Link>,
 ) -> Result<Vec<Letter>, AllocError>
-    ensures { OnOk result (scene.new.drawn.items ≡ scene.old.drawn.items) }
+    ensures drawn { OnOk result (scene.new.drawn.items ≡ scene.old.drawn.items) }
+    ensures houses { OnOk result (scene.new.houses ≡ scene.old.houses) }
 {
     let letters = std::mem::replace(&mut scene.letters, Vec::new(heap));
     let parted = part(heap, letters, link)?;
