@@ -1,5 +1,7 @@
 // Calls in words.
 ghost use Rattle.std.specs.Prelude.{◌≡◌, ◌+◌, ◌*◌, ◌≤◌, false, Some, IsAscii, length, map, take};
+ghost use Rattle.std.specs.List.{list_all};
+ghost use Rattle.std.specs.Fmt.{WritesOnOk};
 ghost use Rattle.calls.specs.Reading.{expect_of};
 ghost use Rattle.lent_bytes.specs.Writers.{Wrote};
 ghost use Rattle.words.specs.Values.{name_of, path_of, act_of, call_of};
@@ -17,6 +19,13 @@ fn is_plain(quoted: bool, c: u8) -> bool
     ensures { result ≡ plain quoted c }
 {
     32 <= c && c <= 126 && !is_end(quoted, c) && c != b'\\'
+}
+
+// Are bytes of a value or a name written as they are.
+fn are_plain(quoted: bool, bytes: &[u8]) -> bool
+    ensures { result ≡ list_all (plain quoted) bytes.now }
+{
+    bytes.iter().all(|byte| is_plain(quoted, *byte))
 }
 
 // Writes a byte of a value or a name: one character, or what stands for it.
@@ -51,6 +60,23 @@ fn spell_part(quoted: bool, bytes: &[u8], room: &mut [u8]) -> usize
     text.used
 }
 
+// Writes bytes of a value or a name at once: a write for each would cost more than to spell it.
+fn write_part<W: fmt::Write>(
+    f: &mut fmt::Formatter<W>,
+    quoted: bool,
+    part: &[u8],
+) -> fmt::Result
+    requires { length part.now ≤ 64 }
+    ensures { WritesOnOk W.write_str_gives f.old result (chars_spelled quoted part.now) f.new }
+{
+    if are_plain(quoted, part) {
+        return f.write_str(str::from_utf8(part).unwrap());
+    }
+    let mut room = [0; 256];
+    let used = spell_part(quoted, part, &mut room);
+    f.write_str(str::from_utf8(&room[..used]).unwrap())
+}
+
 // The bytes of a value or a name, one behind the other.
 #[derive(Clone, Copy)]
 struct Characters<'a> {
@@ -58,16 +84,13 @@ struct Characters<'a> {
     bytes: &'a [u8],
 }
 
-// A part of them is written at once: a write for each byte would cost more than its characters.
 // kept: a derive would not state the text
 impl fmt::Display for Characters<'_> {
     ghost output = { λ c. Some (chars_spelled c.quoted c.bytes.now) };
 
     fn fmt<W: fmt::Write>(&self, f: &mut fmt::Formatter<W>) -> fmt::Result {
-        let mut room = [0; 128];
-        for part in self.bytes.chunks(32) {
-            let used = spell_part(self.quoted, part, &mut room);
-            f.write_str(str::from_utf8(&room[..used]).unwrap())?;
+        for part in self.bytes.chunks(64) {
+            write_part(f, self.quoted, part)?;
         }
         Ok(())
     }

@@ -8,11 +8,6 @@ use Rattle.spelling.specs.Spelled.{chars_spelled}
 use Rattle.spelling.proofs.Characters.{part_more, none_left}
 use Rattle.spelling.proofs.wording.CharactersDisplay.fmt.Goals as goal
 
-pub unwrap-requires : goal.unwrap-requires
-unwrap-requires g c =
-    let text : IsUtf8 (take c.spell_part-used.result c.spell_part-used.new.room) = rw c.spell_part-used.ensures.text (IsUtf8-from_ascii _ c.spell_part-used.ensures.ascii) in
-    search rules
-
 pub loop-part-preserved : goal.loop-part-preserved
 loop-part-preserved g c = (
   search rules,
@@ -20,10 +15,9 @@ loop-part-preserved g c = (
   c.in-Some.ensures.steps.0 ∙ c.loop-part.invariant.2,
   λ plain.
       let so_far = c.loop-part.invariant.3 plain in
-      let read = rw c.unwrap.ensures at c.from_utf8.ensures.cases in
-      let text : c.unwrap.result.now ≡ chars_spelled c.args.self.now.quoted c.in-Some.part.now = read.0 ∙ c.spell_part-used.ensures.text in (
+      (
         so_far.0 ++ chars_spelled c.args.self.now.quoted c.in-Some.part.now,
-        has_written_append _ _ _ _ _ _ so_far.1 (has_written_of_eq _ _ _ _ _ text (search rules)),
+        has_written_append _ _ _ _ _ _ so_far.1 (search rules),
         part_more c.args.self.now.quoted c.args.self.now.bytes.now (chunks_rest c.loop-part.part-iterator) c.in-Some.part.now (chunks_rest c.next.new.self) so_far.0 c.in-Some.ensures.steps.1.0 so_far.2,
       ),
 )
