@@ -61,11 +61,7 @@ fn spell_part(quoted: bool, bytes: &[u8], room: &mut [u8]) -> usize
 }
 
 // Writes bytes of a value or a name at once: a write for each would cost more than to spell it.
-fn write_part<W: fmt::Write>(
-    f: &mut fmt::Formatter<W>,
-    quoted: bool,
-    part: &[u8],
-) -> fmt::Result
+fn write_part<W: fmt::Write>(f: &mut fmt::Formatter<W>, quoted: bool, part: &[u8]) -> fmt::Result
     requires { length part.now ≤ 64 }
     ensures { WritesOnOk W.write_str_gives f.old result (chars_spelled quoted part.now) f.new }
 {

@@ -30,6 +30,6 @@ returns c =
     let all : take c.loop-byte.byte-index c.args.bytes.now ≡ c.args.bytes.now = take_all c.loop-byte.byte-index c.args.bytes.now c.loop-byte-test.false in
     let ascii : IsAscii (chars_spelled c.args.quoted c.args.bytes.now) = rw all at so_far.ascii in
     let text : take c.loop-byte.text.used c.loop-byte.text.out.now ≡ chars_spelled c.args.quoted c.args.bytes.now =
-        wrote_all c.args.quoted _ c.new-text.result c.loop-byte.text c.new-text.ensures.used so_far.wrote ∙ ap (chars_spelled c.args.quoted) all in
+    wrote_all c.args.quoted _ c.new-text.result c.loop-byte.text c.new-text.ensures.used so_far.wrote ∙ ap (chars_spelled c.args.quoted) all in
     let inside : c.loop-byte.text.used ≤ length c.loop-byte.text.out.now = c.loop-byte.text.inside in
     search rules

@@ -3,7 +3,7 @@ use Rattle.std.proofs.Common.{◌≡◌, ◌∙◌, IsUtf8, take, true, sym, rul
 use Rattle.std.proofs.Output.{has_written_of_eq}
 use Rattle.std.proofs.lemmas.Str.{IsUtf8-from_ascii}
 use Rattle.std.specs.List.{list_all}
-use Rattle.spelling.specs.Spelled.{plain, chars_spelled}
+use Rattle.spelling.specs.Spelled.{plain}
 use Rattle.spelling.proofs.Characters.{plain_bytes}
 use Rattle.spelling.proofs.wording.write_part.Goals as goal
 
