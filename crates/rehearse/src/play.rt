@@ -46,6 +46,8 @@ fn play_call(rt: &HostRuntime, scene: &Scene, house: u8, call: &Call) -> anyhow:
         return Ok(scene.refuse(rt, fault)?);
     }
     let answer = answer_in_words(heap, &ask(&bytes))?;
+    // let go before the line is made: each may be as long as the call
+    drop(bytes);
     let words = answer.as_deref().unwrap_or("no answer");
     let line = format!(in heap; "{house}: {} -> {words}\n", InWords(call))?;
     Ok(write_line(rt, &line)?)
