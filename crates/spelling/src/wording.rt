@@ -61,6 +61,7 @@ fn spell_part(quoted: bool, bytes: &[u8], room: &mut [u8]) -> usize
 }
 
 // Writes bytes of a value or a name at once: a write for each would cost more than to spell it.
+// Bytes that are written as they are go out from where they lie, and others by a room of four characters for each.
 fn write_part<W: fmt::Write>(f: &mut fmt::Formatter<W>, quoted: bool, part: &[u8]) -> fmt::Result
     requires { length part.now ≤ 64 }
     ensures { WritesOnOk W.write_str_gives f.old result (chars_spelled quoted part.now) f.new }
