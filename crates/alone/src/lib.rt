@@ -1,7 +1,7 @@
 // One replica alone: its tree lies in one buffer, and the next is written into another, which then is the tree.
 #![tactic(auto)]
 
-ghost use Rattle.std.specs.Prelude.{◌≡◌, ◌≤◌, min, true, length, take, IfSome, IfOk};
+ghost use Rattle.std.specs.Prelude.{◌≡◌, ◌≤◌, min, true, false, length, take, IfSome, IfOk};
 ghost use Rattle.model.specs.Tree.{blank};
 ghost use Rattle.content.specs.Content.{is_tree};
 ghost use Rattle.service.specs.Answering.{AnsweredBy};
@@ -99,6 +99,7 @@ impl Alone {
     fn turn(&mut self, size: Option<Size>)
         requires { IfSome size (λ z. (is_tree self.old.room (take z.used self.old.next.items) ≡ true) × (z.used ≤ length self.old.next.items)) }
         ensures tree { (self.new.tree.items ≡ pick self.old.tree.items self.old.next.items size) × (self.new.used ≡ used_by self.old.used size) }
+        ensures next { self.new.next.items ≡ pick self.old.next.items self.old.tree.items size }
         ensures kept { (self.new.room ≡ self.old.room) × (self.new.said ≡ self.old.said) × (self.new.desk ≡ self.old.desk) }
     {
         if let Some(size) = size {
@@ -108,11 +109,12 @@ impl Alone {
         }
     }
 
-    // Answers a call, and says whether there is an answer; where no more changes can be counted there is none, and the tree is what it was.
+    // Answers a call, and says whether there is an answer; where no more changes can be counted there is none, the tree is what it was, and nothing is left to be read of the last answer.
     // kept: no clause can say what the replica is afterwards where a part of it is handed out, so the answer is read by reply
     pub fn ask(&mut self, call: &[u8]) -> bool
         ensures room { self.new.room ≡ self.old.room }
         ensures told { Told self.old.room call.now (stands_for self.old.tree.items self.old.used) result (stands_for self.new.tree.items self.new.used) (take self.new.said self.new.desk.reply.items) }
+        ensures silent { result ≡ false → self.new.said ≡ 0 }
     {
         let Alone {
             room,

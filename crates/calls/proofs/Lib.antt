@@ -1,3 +1,4 @@
+pub mod Acts
 pub mod Many
 pub mod Back
 pub mod Screens

@@ -83,12 +83,12 @@ impl<'a> Cell<'a> {
     pub fn is_kid(self, path: Path<'_>) -> bool
         ensures { result ≡ is_kid (path_of path.entry.names.now) (entry_of self.entry.bytes.now) }
     {
-        // kept: the answer is a bool, so `?` can't hand on that nothing is found
-        let Some(rest) = self.path().names.strip_prefix(path.names) else {
+        // kept: the answer is a bool, so `?` can't hand on that its path is shorter. What is behind is looked at first: most paths of a tree differ in length, and `strip_prefix` compares all of the front first
+        let Some((front, rest)) = self.path().names.split_at_checked(path.names.len()) else {
             return false;
         };
         match rest.split_first() {
-            Some((len, name)) => *len as usize == name.len(),
+            Some((len, name)) => *len as usize == name.len() && front == path.names,
             None => false,
         }
     }

@@ -95,7 +95,9 @@ impl<'a> Tree<'a> {
         ensures found { Found (at (path_of path.entry.names.now)) (tree_entries self.entry) result }
         ensures within { IfSome result (λ i. i + 1 < length self.entry.places.now) }
     {
-        self.cells().position(|cell| cell.is_at(path))
+        // kept: the place is named once more, so that an answer that is one off is refused for what it is
+        let place = self.cells().position(|cell| cell.is_at(path))?;
+        Some(place)
     }
 
     // Does an entry stand directly under that path.

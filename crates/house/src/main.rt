@@ -122,9 +122,15 @@ fn main(rt: HostRuntime) -> anyhow::Result<ExitCode> {
         return Ok(ExitCode::FAILURE);
     };
     let mut house = House::start(rt.alloc(), arguments)?;
-    let input = BufReader::new(rt.alloc(), rt.stdin())?;
-    for line in input.split(rt.alloc(), b'\n') {
-        serve(&rt, &mut house, &line?)?;
+    let mut input = BufReader::new(rt.alloc(), rt.stdin())?;
+    let mut line = Vec::new(rt.alloc());
+    // kept: a line may be as long as a tree; one Vec holds each of them, where `split` makes one a line and takes twice the memory
+    for _ in 0..u64::MAX {
+        line.clear();
+        if input.read_until(b'\n', &mut line)? == 0 {
+            break;
+        }
+        serve(&rt, &mut house, line.strip_suffix(b"\n").unwrap_or(&line))?;
     }
     Ok(ExitCode::SUCCESS)
 }

@@ -1,8 +1,9 @@
 -- A path and its last name; a path that is another and one name more, and how its bytes show that. Assumes nothing.
-use Rattle.std.proofs.Common.{◌≡◌, ◌≢◌, ℕ, ◌+◌, ◌<◌, Bool, true, not, ◌&&◌, eqb, List, [], ◌∷◌, ◌++◌, length, get_or, Decides, sym, refl, ap, ◌∙◌, append-nil, arith, length-append}
-use Rattle.std.proofs.lemmas.Bool.{and_parts, and_from, eqb-true, eq-eqb}
+use Rattle.std.proofs.Common.{◌≡◌, ◌≢◌, ℕ, ◌+◌, ◌<◌, ◌≤◌, Bool, true, not, ◌&&◌, eqb, List, [], ◌∷◌, ◌++◌, length, get_or, take, Decides, sym, refl, ap, ◌∙◌, append-nil, arith, length-append}
+use Rattle.std.proofs.lemmas.Bool.{and_parts, and_from, eqb-true}
 use Rattle.std.proofs.lemmas.Bool.Decides.{same_from_decides}
 use Rattle.std.proofs.lemmas.List.{append_cancel_left}
+use Rattle.std.proofs.Math.Seq.{take-append_seam}
 use Rattle.model.specs.Tree.{Name, Path, none, above, last_name, same_path}
 use Rattle.lent_bytes.specs.Paths.{path_of, path_bytes, Spells}
 use Rattle.lent_bytes.proofs.Same.{same_path_decides}
@@ -68,21 +69,30 @@ module _ (own path : List ℕ) (so : Spells own) (sp : Spells path) where
   pub kid_decides : (r : Bool) → Decides r (Under (path_of path) (path_of own)) → r ≡ (not (none (path_of own)) && same_path (path_of path) (above (path_of own)))
   kid_decides r d = same_from_decides r (not (none (path_of own)) && same_path (path_of path) (above (path_of own))) d (under_decides (path_of path) (path_of own))
 
-  -- what is behind the path's bytes, if they are in front
-  left_is : (rest : List ℕ) → own ≡ path ++ rest → (u : Under (path_of path) (path_of own)) → (n : Name) × (rest ≡ length n ∷ n)
-  left_is rest e u = let b = bytes_under u in (b.0, append_cancel_left path rest (length b.0 ∷ b.0) (sym e ∙ b.1))
+  -- what stands behind as many bytes as the path has, where it is another and one name more
+  behind_is : (front rest : List ℕ) → own ≡ front ++ rest → length front ≡ length path → Under (path_of path) (path_of own) → (front ≡ path) × ((n : Name) × (rest ≡ length n ∷ n))
+  behind_is front rest e l u =
+      let b = bytes_under u in
+      let name = length b.0 ∷ b.0 in
+      let same : front ≡ path = sym (take-append_seam front rest) ∙ ap (take (length front)) (sym e) ∙ ap (λ k. take k own) l ∙ ap (take (length path)) b.1 ∙ take-append_seam path name in
+      (same, (b.0, append_cancel_left path rest name (ap (λ f. f ++ rest) (sym same) ∙ sym e ∙ b.1)))
 
-  -- the three ways of the code
-  pub other_front : ((rest : List ℕ) → own ≢ path ++ rest) → Under (path_of path) (path_of own) → ⊥
-  other_front differ u = let b = bytes_under u in differ (length b.0 ∷ b.0) b.1
+  -- the ways of the code
+  pub too_short : length own ≤ length path → Under (path_of path) (path_of own) → ⊥
+  too_short l u = let b = bytes_under u in omega (arith, ap length b.1, length-append path (length b.0 ∷ b.0))
 
-  pub nothing_left : (rest : List ℕ) → own ≡ path ++ rest → length rest ≡ 0 → Under (path_of path) (path_of own) → ⊥
-  nothing_left rest e l u = let z = left_is rest e u in omega (arith, l, ap length z.1)
-
-  pub one_name_left : (b : ℕ) (name : List ℕ) → own ≡ path ++ b ∷ name → Decides (eqb b (length name)) (Under (path_of path) (path_of own))
-  one_name_left b name e = (
-    λ t. under_bytes (b ∷ name) e (omega arith) (omega (arith, eqb-true b (length name) t)),
+  -- no one name is behind
+  pub other_length : (front : List ℕ) (b : ℕ) (name : List ℕ) → own ≡ front ++ b ∷ name → length front ≡ length path → b ≢ length name → Decides (eqb b (length name)) (Under (path_of path) (path_of own))
+  other_length front b name e l differ = (
+    λ t. absurd (differ (eqb-true b (length name) t)),
     λ u.
-        let z = left_is (b ∷ name) e u in
-        eq-eqb b (length name) (omega (arith, ap length z.1, ap (λ (r : List ℕ). get_or r 0 0) z.1)),
+        let z = (behind_is front (b ∷ name) e l u).1 in
+        absurd (differ (omega (arith, ap length z.1, ap (λ (r : List ℕ). get_or r 0 0) z.1))),
+  )
+
+  -- one name is behind, and it is under the path if that is in front
+  pub front_decides : (front : List ℕ) (b : ℕ) (name : List ℕ) (r : Bool) → own ≡ front ++ b ∷ name → length front ≡ length path → b ≡ length name → Decides r (front ≡ path) → Decides r (Under (path_of path) (path_of own))
+  front_decides front b name r e l one d = (
+    λ t. under_bytes (b ∷ name) (e ∙ ap (λ f. f ++ b ∷ name) (d.0 t)) (omega arith) (omega (arith, one)),
+    λ u. d.1 (behind_is front (b ∷ name) e l u).0,
   )

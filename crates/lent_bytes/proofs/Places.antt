@@ -1,6 +1,5 @@
 -- A number at a place is that of the part that has the place. Assumes nothing.
-use Rattle.std.proofs.Common.{◌≡◌, ℕ, ◌+◌, ◌<◌, ◌≤◌, List, ◌++◌, length, get_or, take, drop, ap, ◌∙◌, add-zero, arith, rules, w32, w64}
-use Rattle.std.specs.Int.{from_be_bytes}
+use Rattle.std.proofs.Common.{◌≡◌, ℕ, ◌+◌, ◌<◌, ◌≤◌, List, ◌++◌, length, get_or, take, drop, ap, ◌∙◌, add-zero, arith}
 use Rattle.std.proofs.lemmas.List.{get_or-take, get_or-drop, get_or_append_left}
 use Rattle.lent_bytes.specs.Numbers.{be32, be64}
 
@@ -45,18 +44,3 @@ be32_front xs ys i h = be32_same (xs ++ ys) xs i i (λ j l. get_or_append_left x
 
 pub be64_front : (xs ys : List ℕ) (i : ℕ) → i + 8 ≤ length xs → be64 (xs ++ ys) i ≡ be64 xs i
 be64_front xs ys i h = be64_same (xs ++ ys) xs i i (λ j l. get_or_append_left xs ys 0 (i + j) (omega arith))
-
--- the number of the bytes that were taken from a place
-be32_word : (xs : List ℕ) → from_be_bytes w32 xs ≡ be32 xs 0
-unfolding be32
-be32_word xs = search rules
-
-be64_word : (xs : List ℕ) → from_be_bytes w64 xs ≡ be64 xs 0
-unfolding be64
-be64_word xs = search rules
-
-pub be32_at : (bs : List ℕ) (i : ℕ) (xs : List ℕ) → xs ≡ take 4 (drop i bs) → from_be_bytes w32 xs ≡ be32 bs i
-be32_at bs i xs e = be32_word xs ∙ ap (λ (l : List ℕ). be32 l 0) e ∙ be32_take 4 (drop i bs) 0 (omega arith) ∙ be32_drop i bs 0 ∙ ap (be32 bs) (let z : i + 0 ≡ i = omega arith in z)
-
-pub be64_at : (bs : List ℕ) (i : ℕ) (xs : List ℕ) → xs ≡ take 8 (drop i bs) → from_be_bytes w64 xs ≡ be64 bs i
-be64_at bs i xs e = be64_word xs ∙ ap (λ (l : List ℕ). be64 l 0) e ∙ be64_take 8 (drop i bs) 0 (omega arith) ∙ be64_drop i bs 0 ∙ ap (be64 bs) (let z : i + 0 ≡ i = omega arith in z)

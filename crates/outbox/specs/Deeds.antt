@@ -1,5 +1,5 @@
--- What a turn says, as headers: what a leader or a candidate says to all others, as the machine has it.
-use Rattle.std.specs.Prelude.{ℕ, zero, suc, ◌<◌, cond, ◌||◌, List, [], ◌∷◌, ◌++◌, get_or, is_some, Some, None, Option, ◌==◌, slice_index_or}
+-- What a turn says, as headers: the list that an outbox is, and what a leader or a candidate says to all others, as the machine has it.
+use Rattle.std.specs.Prelude.{ℕ, zero, suc, ◌<◌, cond, ◌||◌, List, [], ◌∷◌, ◌++◌, get_or, take, is_some, Some, None, Option, ◌==◌, slice_index_or}
 use Rattle.agreement.specs.declared.Agreement.{Agreement}
 use Rattle.agreement.specs.Content.{fresh_place}
 use Rattle.agreement.specs.Machine.{counts}
@@ -7,6 +7,10 @@ use Rattle.outbox.specs.declared.Word.{Word}
 use Rattle.outbox.specs.declared.Word.TheVariants as word
 use Rattle.outbox.specs.declared.Deed.{Deed}
 use Rattle.outbox.specs.declared.Deed.TheVariants as deed
+use Rattle.outbox.specs.declared.Outbox.{Outbox}
+
+abbrev pub list_of : Outbox → List Deed
+list_of o = take o.count o.deeds
 
 -- what is said to the replica j, if there is something to say
 abbrev pub said : ℕ → Option Word → List Deed

@@ -1,13 +1,12 @@
 // What a turn says, as a short list of headers by value. A proposal that is said is the one that is held when the turn ends, and a call lies in a slot of memory: so headers carry neither.
 #![tactic(auto)]
 
-ghost use Rattle.std.specs.Prelude.{◌≡◌, ℕ, ◌+◌, ◌<◌, ◌≤◌, List, [], ◌∷◌, ◌++◌, length};
+ghost use Rattle.std.specs.Prelude.{◌≡◌, ℕ, ◌+◌, ◌<◌, ◌≤◌, List, [], ◌∷◌, ◌++◌};
 ghost use Rattle.voting.specs.declared.replicas.Replica.{Replica};
 ghost use Rattle.outbox.specs.declared.Deed.{Deed};
-ghost use Rattle.outbox.specs.Deeds.{said, eachOf, aliveBy, word_by, tellBy, tellAllBy, askBy, askAllBy, tellDoneBy, Below};
+ghost use Rattle.outbox.specs.Deeds.{list_of, said, eachOf, aliveBy, word_by, tellBy, tellAllBy, askBy, askAllBy, tellDoneBy, Below};
 
 use agreement::{Agreement, Joining, ProposalId, View};
-use std::marker::Model;
 use voting::quorum::does_count;
 use voting::replicas::Replica;
 
@@ -91,27 +90,18 @@ fn asked(a: Agreement, j: Replica) -> Option<Word>
 
 // The deeds of a turn, in their order.
 // kept: a turn takes no memory from the heap, so its deeds, at most 24, lie in the outbox itself.
-#[derive(Drop)]
+// kept: it is copied, and `Copy` beside a model wants one that gives the fields back, also what lies behind the count. So it has no `impl Model`, its fields are public, and `list_of` says what it stands for.
+#[derive(Clone, Copy)]
 pub struct Outbox {
-    count: usize,
-    deeds: [Deed; 24],
-}
-
-impl Model for Outbox {
-    ghost use Rattle.std.specs.Prelude.{◌≤◌, List, take};
-    ghost use Rattle.outbox.specs.declared.Deed.{Deed};
-
-    ghost Value = { List Deed };
-
-    ghost view = { λ outbox. take outbox.count outbox.deeds };
-
-    ghost invariant = { λ outbox. outbox.count ≤ 24 };
+    pub count: usize,
+    pub deeds: [Deed; 24],
 }
 
 impl Outbox {
     // Nothing is done yet.
     pub fn new() -> Self
-        ensures { result ≡ [] }
+        ensures list { list_of result ≡ [] }
+        ensures count { result.count ≡ 0 }
     {
         Outbox {
             count: 0,
@@ -121,16 +111,17 @@ impl Outbox {
 
     // What is done so far, in order.
     pub fn deeds(&self) -> &[Deed]
-        ensures { result.now ≡ self.now }
+        ensures { result.now ≡ list_of self.now }
     {
-        &self.deeds[..self.count]
+        &self.deeds[..self.count.min(self.deeds.len())]
     }
 
     // One deed more.
     // kept: whether there is room is known only of some outboxes.
     pub fn push(&mut self, deed: Deed)
-        requires { length self.old < 24 }
-        ensures { self.new ≡ self.old ++ (deed ∷ []) }
+        requires { self.old.count < 24 }
+        ensures list { list_of self.new ≡ list_of self.old ++ (deed ∷ []) }
+        ensures count { self.new.count ≡ self.old.count + 1 }
     {
         self.deeds[self.count] = deed;
         self.count += 1;
@@ -139,9 +130,9 @@ impl Outbox {
     // Something is said to one replica, if there is something to say.
     // kept: whether there is room is known only of some outboxes.
     fn say(&mut self, j: Replica, word: Option<Word>)
-        requires { length self.old < 24 }
-        ensures list { self.new ≡ self.old ++ said j.index word }
-        ensures count { length self.new ≤ length self.old + 1 }
+        requires { self.old.count < 24 }
+        ensures list { list_of self.new ≡ list_of self.old ++ said j.index word }
+        ensures count { self.new.count ≤ self.old.count + 1 }
     {
         if let Some(word) = word {
             self.push(Deed::Say { to: j.index, word });
@@ -150,10 +141,10 @@ impl Outbox {
 
     // What there is to say to each of all replicas is said.
     fn say_each<F: Fn(Replica) -> Option<Word>>(&mut self, all: u8, word: F)
-        requires room { (all ≤ 7) × (length self.old + 7 ≤ 24) }
+        requires room { (all ≤ 7) × (self.old.count + 7 ≤ 24) }
         requires callable { F.IsAlwaysCallable word }
-        ensures list { (f : ℕ → List Deed) → ((j : Replica) (w : _) → F.post word j w → said j.index w ≡ f j.index) → self.new ≡ self.old ++ eachOf all f }
-        ensures count { length self.new ≤ length self.old + all }
+        ensures list { (f : ℕ → List Deed) → ((j : Replica) (w : _) → F.post word j w → said j.index w ≡ f j.index) → list_of self.new ≡ list_of self.old ++ eachOf all f }
+        ensures count { self.new.count ≤ self.old.count + all }
     {
         // kept: std says nothing of what a closure changed after `for_each`.
         for index in 0..all {
@@ -165,27 +156,27 @@ impl Outbox {
     // A leader speaks to one replica, if that is another.
     // kept: whether there is room is known only of some outboxes.
     pub fn tell(&mut self, a: Agreement, j: Replica)
-        requires { length self.old < 24 }
-        ensures list { self.new ≡ self.old ++ tellBy a j.index }
-        ensures count { length self.new ≤ length self.old + 1 }
+        requires { self.old.count < 24 }
+        ensures list { list_of self.new ≡ list_of self.old ++ tellBy a j.index }
+        ensures count { self.new.count ≤ self.old.count + 1 }
     {
         self.say(j, told(a, j));
     }
 
     // A leader speaks to all others.
     pub fn tell_all(&mut self, a: Agreement)
-        requires { (a.all ≤ 7) × (length self.old + 7 ≤ 24) }
-        ensures list { self.new ≡ self.old ++ tellAllBy a }
-        ensures count { length self.new ≤ length self.old + a.all }
+        requires { (a.all ≤ 7) × (self.old.count + 7 ≤ 24) }
+        ensures list { list_of self.new ≡ list_of self.old ++ tellAllBy a }
+        ensures count { self.new.count ≤ self.old.count + a.all }
     {
         self.say_each(a.all, |j| told(a, j));
     }
 
     // A candidate asks all whose promise it does not have.
     pub fn ask_all(&mut self, a: Agreement)
-        requires { (a.all ≤ 7) × (length self.old + 7 ≤ 24) }
-        ensures list { self.new ≡ self.old ++ askAllBy a }
-        ensures count { length self.new ≤ length self.old + a.all }
+        requires { (a.all ≤ 7) × (self.old.count + 7 ≤ 24) }
+        ensures list { list_of self.new ≡ list_of self.old ++ askAllBy a }
+        ensures count { self.new.count ≤ self.old.count + a.all }
     {
         self.say_each(a.all, |j| asked(a, j));
     }
@@ -194,9 +185,9 @@ impl Outbox {
     // kept: whether there is room is known only of some outboxes.
     pub fn tell_done(&mut self, a: Agreement, job: Option<u8>)
         requires job { Below job }
-        requires room { length self.old < 24 }
-        ensures list { self.new ≡ self.old ++ tellDoneBy a job }
-        ensures count { length self.new ≤ length self.old + 1 }
+        requires room { self.old.count < 24 }
+        ensures list { list_of self.new ≡ list_of self.old ++ tellDoneBy a job }
+        ensures count { self.new.count ≤ self.old.count + 1 }
     {
         match job {
             Some(index) if index != a.me => {

@@ -21,10 +21,16 @@ fn play_line(rt: &HostRuntime, scene: &mut Scene, line: &[u8]) -> anyhow::Result
 fn play_lines<R: BufRead + Drop>(
     rt: &HostRuntime,
     scene: &mut Scene,
-    script: R,
+    mut script: R,
 ) -> anyhow::Result<()> {
-    for line in script.split(rt.alloc(), b'\n') {
-        play_line(rt, scene, &line?)?;
+    let mut line = Vec::new(rt.alloc());
+    // kept: one Vec holds each line; `split` makes one a line, and where lines are long that takes twice the memory
+    for _ in 0..u64::MAX {
+        line.clear();
+        if script.read_until(b'\n', &mut line)? == 0 {
+            break;
+        }
+        play_line(rt, scene, line.strip_suffix(b"\n").unwrap_or(&line))?;
     }
     Ok(())
 }

@@ -4,28 +4,24 @@ ghost use Rattle.script.specs.Houses.{is_up, is_frail, frail_count, place_of, ho
 
 use std::fmt;
 
-// What a house is like.
+// What a house is like: is it up, and is it frail, that is fallen, and not yet whole again.
 #[derive(Clone, Copy, Debug, PartialEq, Eq)]
-pub enum House {
-    // up and whole
-    Whole,
-    // up, and not yet whole again since it fell
-    Frail,
-    // fallen, and so frail too
-    Down,
+pub struct House {
+    pub up: bool,
+    pub frail: bool,
 }
 
 impl House {
     pub fn is_up(self) -> bool
         ensures { result ≡ is_up self }
     {
-        !matches!(self, House::Down)
+        self.up
     }
 
     pub fn is_frail(self) -> bool
         ensures { result ≡ is_frail self }
     {
-        !matches!(self, House::Whole)
+        self.frail
     }
 }
 
@@ -77,7 +73,10 @@ impl Houses {
     {
         Houses {
             all,
-            each: [House::Whole; 7],
+            each: [House {
+                up: true,
+                frail: false,
+            }; 7],
         }
     }
 
@@ -106,7 +105,10 @@ impl Houses {
         if !self.each[place].is_up() {
             return Err(Forbidden::Already);
         }
-        self.each[place] = House::Down;
+        self.each[place] = House {
+            up: false,
+            frail: true,
+        };
         if 2 * count_frail(&self.each) < self.all as usize {
             Ok(self)
         } else {
@@ -114,7 +116,7 @@ impl Houses {
         }
     }
 
-    // A house that is down wakes, and is frail until it has told that it is whole.
+    // A house that is down wakes, and is frail as it was: once it fell, until it has told that it is whole.
     pub fn wake(mut self, house: u8) -> Result<Houses, Forbidden>
         ensures { result ≡ woke self house }
     {
@@ -122,7 +124,7 @@ impl Houses {
         if self.each[place].is_up() {
             return Err(Forbidden::Already);
         }
-        self.each[place] = House::Frail;
+        self.each[place].up = true;
         Ok(self)
     }
 }

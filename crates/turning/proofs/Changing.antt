@@ -4,6 +4,7 @@ use Rattle.agreement.specs.declared.Agreement.{Agreement}
 use Rattle.agreement.specs.Machine as Machine
 use Rattle.agreement.specs.Machine.{Mind, still, then_do}
 use Rattle.service.specs.Service.{lines}
+use Rattle.outbox.specs.Deeds.{list_of}
 use Rattle.memory.specs.declared.lent.Memory.{Memory}
 use Rattle.memory.specs.Keeps.{state_in, slot_at}
 use Rattle.turning.specs.declared.Turn.{Turn}
@@ -23,7 +24,7 @@ pub changed_turn : (g : (room : ℕ) → Mind (lines room) → Mind (lines room)
 changed_turn g t a b c k e room m = ap (λ (x : Agreement). turn_of room (with' t x) m) c ∙ (same ∙ added)
   where
     same : ◌≡◌ {A = Machine.Turn (lines room)} (turn_of room (with' t b) m) (record { does = (turn_of room t m).does; mind = g room (mind_of room t.house m) })
-    same = λ i. record { does = map (deed_of room (record { id = k.id i; content = record { places = k.places i; state = state_in t.house.kept m; outcomes = t.house.kept.outcomes } }) (slot_at t.house.kept m) m.replies.now) t.outbox; mind = e room m i }
+    same = λ i. record { does = map (deed_of room (record { id = k.id i; content = record { places = k.places i; state = state_in t.house.kept m; outcomes = t.house.kept.outcomes } }) (slot_at t.house.kept m) m.replies.now) (list_of t.outbox); mind = e room m i }
 
     added : ◌≡◌ {A = Machine.Turn (lines room)} (record { does = (turn_of room t m).does; mind = g room (mind_of room t.house m) }) (then_do (turn_of room t m) (λ n. still (g room n)))
     added = then_change room (turn_of room t m) (g room)

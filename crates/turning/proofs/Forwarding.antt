@@ -1,5 +1,5 @@
 -- Forwarding the oldest call, from what is by value: the machine's forward is one message, or nothing.
-use Rattle.std.proofs.Common.{◌≡◌, ℕ, zero, suc, ◌+◌, Bool, true, false, cond, not, ◌&&◌, eqb, ltb, List, [], ◌∷◌, ◌++◌, get_or, sym, refl, ap, ◌∙◌, arith}
+use Rattle.std.proofs.Common.{◌≡◌, ℕ, zero, suc, ◌+◌, Bool, true, false, cond, not, ◌&&◌, eqb, ltb, [], ◌∷◌, ◌++◌, get_or, sym, refl, ap, ◌∙◌, arith}
 use Rattle.std.proofs.lemmas.Bool.{cond-false, cond-true, ne_eqb}
 use Rattle.runs.specs.Replicas.{Says}
 use Rattle.agreement.specs.declared.Agreement.{Agreement}
@@ -7,7 +7,8 @@ use Rattle.agreement.specs.Content.{limit}
 use Rattle.agreement.specs.Machine as Machine
 use Rattle.agreement.specs.Machine.{Forward, Mind, Waiting, is_member, still, says, then_do, own_call, sends, forward_head, forward}
 use Rattle.service.specs.Service.{lines}
-use Rattle.outbox.specs.declared.Deed.{Deed}
+use Rattle.outbox.specs.declared.Outbox.{Outbox}
+use Rattle.outbox.specs.Deeds.{list_of}
 use Rattle.memory.specs.declared.lent.Memory.{Memory}
 use Rattle.memory.specs.Keeps.{ring, waiting_at, slot_at, oldest_in}
 use Rattle.turning.specs.declared.House.{House}
@@ -38,7 +39,7 @@ module _ (room : ℕ) (m : Memory) (h : House) where
   forward_is = forward_ring room (waiting_at room h.kept.numbers (slot_at h.kept m)) h.kept.first (mind_of room h m) h.kept.count
 
 -- the oldest call was said to the leader
-pub forwarded_turn : (room : ℕ) (m : Memory) (t : Turn) (o : List Deed) → may_forward t.house ≡ true → o ≡ t.outbox ++ (oldest_said t.house ∷ []) → ◌≡◌ {A = Machine.Turn (lines room)} (turn_of room (record { house = t.house; outbox = o }) m) (then_do (turn_of room t m) forward)
+pub forwarded_turn : (room : ℕ) (m : Memory) (t : Turn) (o : Outbox) → may_forward t.house ≡ true → list_of o ≡ list_of t.outbox ++ (oldest_said t.house ∷ []) → ◌≡◌ {A = Machine.Turn (lines room)} (turn_of room (record { house = t.house; outbox = o }) m) (then_do (turn_of room t m) forward)
 unfolding then_do
 forwarded_turn room m t o e s =
     ◌∙◌ {A = Machine.Turn (lines room)} (added_turn room m t o (oldest_said t.house ∷ []) s)

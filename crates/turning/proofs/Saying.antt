@@ -10,17 +10,18 @@ use Rattle.outbox.specs.declared.Word.{Word}
 use Rattle.outbox.specs.declared.Word.TheVariants as word
 use Rattle.outbox.specs.declared.Deed.{Deed}
 use Rattle.outbox.specs.declared.Deed.TheVariants as deed
-use Rattle.outbox.specs.Deeds.{eachOf, aliveBy, word_by, tellBy, tellAllBy, askBy, askAllBy, tellDoneBy}
+use Rattle.outbox.specs.declared.Outbox.{Outbox}
+use Rattle.outbox.specs.Deeds.{list_of, eachOf, aliveBy, word_by, tellBy, tellAllBy, askBy, askAllBy, tellDoneBy}
 use Rattle.memory.specs.declared.lent.Memory.{Memory}
 use Rattle.memory.specs.Keeps.{slot_at}
 use Rattle.turning.specs.declared.House.{House}
 use Rattle.turning.specs.declared.Turn.{Turn}
 use Rattle.turning.specs.Turns.{mind_of, word_of, done_in, turn_of}
 
-pub added_turn : (room : ℕ) (m : Memory) (t : Turn) (o ds : List Deed) → o ≡ t.outbox ++ ds → ◌≡◌ {A = Machine.Turn (lines room)} (turn_of room (record { house = t.house; outbox = o }) m) (record { does = (turn_of room t m).does ++ map (done_in room t.house m) ds; mind = mind_of room t.house m })
+pub added_turn : (room : ℕ) (m : Memory) (t : Turn) (o : Outbox) (ds : List Deed) → list_of o ≡ list_of t.outbox ++ ds → ◌≡◌ {A = Machine.Turn (lines room)} (turn_of room (record { house = t.house; outbox = o }) m) (record { does = (turn_of room t m).does ++ map (done_in room t.house m) ds; mind = mind_of room t.house m })
 added_turn room m t o ds e =
     ◌∙◌ {A = Machine.Turn (lines room)} (λ i. record { does = map (done_in room t.house m) (e i); mind = mind_of room t.house m })
-    (λ i. record { does = map-append (done_in room t.house m) t.outbox ds i; mind = mind_of room t.house m })
+    (λ i. record { does = map-append (done_in room t.house m) (list_of t.outbox) ds i; mind = mind_of room t.house m })
 
 -- to each of the first n
 pub done_each : (room : ℕ) (f : Deed → Does (Msg (lines room)) (List ℕ)) (g : ℕ → List Deed) (h : ℕ → List (Does (Msg (lines room)) (List ℕ))) → ((j : ℕ) → map f (g j) ≡ h j) → (n : ℕ) → map f (eachOf n g) ≡ to_each {sv = lines room} n h
@@ -80,7 +81,7 @@ module _ (room : ℕ) (h : House) (m : Memory) where
   tell_done_mind (Some j) = cond_both (eqb j h.agreement.me) _ _ (λ (x : Machine.Turn (lines room)). x.mind ≡ mind_of room h m) (λ _. refl) (λ _. refl)
 
 -- a move that only says something
-pub moved_by : (room : ℕ) (m : Memory) (t : Turn) (o ds : List Deed) (f : Mind (lines room) → Machine.Turn (lines room)) → o ≡ t.outbox ++ ds → map (done_in room t.house m) ds ≡ (f (mind_of room t.house m)).does → (f (mind_of room t.house m)).mind ≡ mind_of room t.house m →
+pub moved_by : (room : ℕ) (m : Memory) (t : Turn) (o : Outbox) (ds : List Deed) (f : Mind (lines room) → Machine.Turn (lines room)) → list_of o ≡ list_of t.outbox ++ ds → map (done_in room t.house m) ds ≡ (f (mind_of room t.house m)).does → (f (mind_of room t.house m)).mind ≡ mind_of room t.house m →
     ◌≡◌ {A = Machine.Turn (lines room)} (turn_of room (record { house = t.house; outbox = o }) m) (then_do (turn_of room t m) f)
 unfolding then_do
 moved_by room m t o ds f e d k =

@@ -11,6 +11,7 @@ use Rattle.outbox.specs.declared.Word.{Word}
 use Rattle.outbox.specs.declared.Word.TheVariants as word
 use Rattle.outbox.specs.declared.Deed.{Deed}
 use Rattle.outbox.specs.declared.Deed.TheVariants as deed
+use Rattle.outbox.specs.Deeds.{list_of}
 use Rattle.memory.specs.declared.lent.Memory.{Memory}
 use Rattle.memory.specs.Keeps.{state_in, slot_at, waiting_in, queued_in}
 use Rattle.turning.specs.declared.House.{House}
@@ -40,7 +41,7 @@ done_in room h m d = deed_of room (accepted (mind_of room h m)) (slot_at h.kept 
 
 -- THE TURN SO FAR
 abbrev pub turn_of : (room : ℕ) → Turn → Memory → Machine.Turn (lines room)
-turn_of room t m = record { does = map (done_in room t.house m) t.outbox; mind = mind_of room t.house m }
+turn_of room t m = record { does = map (done_in room t.house m) (list_of t.outbox); mind = mind_of room t.house m }
 
 -- MOVES. By value: on whatever memory there is, the machine's move is made next
 abbrev pub Move : Type 0

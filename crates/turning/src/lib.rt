@@ -3,7 +3,7 @@
 
 pub mod changes;
 
-ghost use Rattle.std.specs.Prelude.{◌≡◌, ◌+◌, ◌<◌, ◌≤◌, length};
+ghost use Rattle.std.specs.Prelude.{◌≡◌, ◌+◌, ◌<◌, ◌≤◌};
 ghost use Rattle.agreement.specs.Machine.{catch_up, tell_all, ask_all, tell_done};
 ghost use Rattle.agreement.specs.Machine.{tell as «tell'», forward as «forward'»};
 ghost use Rattle.outbox.specs.Deeds.{Below};
@@ -23,7 +23,7 @@ pub struct House {
 }
 
 // A turn under way: the replica now, and what was done so far.
-#[derive(Drop)]
+#[derive(Clone, Copy)]
 pub struct Turn {
     pub house: House,
     pub outbox: Outbox,
@@ -32,9 +32,9 @@ pub struct Turn {
 // It is behind: let it promise what I promised.
 // kept: whether there is room is known only of some outboxes.
 pub fn catch_up(mut turn: Turn, j: u8) -> Turn
-    requires { length turn.outbox < 24 }
+    requires { turn.outbox.count < 24 }
     ensures moves { MovesBy (λ room. catch_up j) turn result }
-    ensures count { length result.outbox ≡ length turn.outbox + 1 }
+    ensures count { result.outbox.count ≡ turn.outbox.count + 1 }
 {
     let word = Word::Prepare(turn.house.agreement.promised);
     turn.outbox.push(Deed::Say { to: j, word });
@@ -44,9 +44,9 @@ pub fn catch_up(mut turn: Turn, j: u8) -> Turn
 // A leader speaks to one replica, if that is another.
 // kept: whether there is room is known only of some outboxes.
 pub fn tell(mut turn: Turn, j: Replica) -> Turn
-    requires { length turn.outbox < 24 }
+    requires { turn.outbox.count < 24 }
     ensures moves { MovesBy (λ room. «tell'» j.index) turn result }
-    ensures count { length result.outbox ≤ length turn.outbox + 1 }
+    ensures count { result.outbox.count ≤ turn.outbox.count + 1 }
 {
     turn.outbox.tell(turn.house.agreement, j);
     turn
@@ -54,9 +54,9 @@ pub fn tell(mut turn: Turn, j: Replica) -> Turn
 
 // A leader speaks to all others.
 pub fn tell_all(mut turn: Turn) -> Turn
-    requires { (turn.house.agreement.all ≤ 7) × (length turn.outbox + 7 ≤ 24) }
+    requires { (turn.house.agreement.all ≤ 7) × (turn.outbox.count + 7 ≤ 24) }
     ensures moves { MovesBy (λ room. tell_all) turn result }
-    ensures count { length result.outbox ≤ length turn.outbox + turn.house.agreement.all }
+    ensures count { result.outbox.count ≤ turn.outbox.count + turn.house.agreement.all }
 {
     turn.outbox.tell_all(turn.house.agreement);
     turn
@@ -64,9 +64,9 @@ pub fn tell_all(mut turn: Turn) -> Turn
 
 // A candidate asks all whose promise it does not have.
 pub fn ask_all(mut turn: Turn) -> Turn
-    requires { (turn.house.agreement.all ≤ 7) × (length turn.outbox + 7 ≤ 24) }
+    requires { (turn.house.agreement.all ≤ 7) × (turn.outbox.count + 7 ≤ 24) }
     ensures moves { MovesBy (λ room. ask_all) turn result }
-    ensures count { length result.outbox ≤ length turn.outbox + turn.house.agreement.all }
+    ensures count { result.outbox.count ≤ turn.outbox.count + turn.house.agreement.all }
 {
     turn.outbox.ask_all(turn.house.agreement);
     turn
@@ -76,9 +76,9 @@ pub fn ask_all(mut turn: Turn) -> Turn
 // kept: whether there is room is known only of some outboxes.
 pub fn tell_done(mut turn: Turn) -> Turn
     requires job { Below turn.house.agreement.job }
-    requires room { length turn.outbox < 24 }
+    requires room { turn.outbox.count < 24 }
     ensures moves { MovesBy (λ room n. tell_done n.agreement.job n) turn result }
-    ensures count { length result.outbox ≤ length turn.outbox + 1 }
+    ensures count { result.outbox.count ≤ turn.outbox.count + 1 }
 {
     let a = turn.house.agreement;
     turn.outbox.tell_done(a, a.job);
@@ -97,9 +97,9 @@ fn may_forward(house: House) -> bool
 // kept: whether there is room is known only of some outboxes.
 pub fn forward(mut turn: Turn) -> Turn
     requires first { turn.house.kept.first < 8 }
-    requires room { length turn.outbox < 24 }
+    requires room { turn.outbox.count < 24 }
     ensures moves { MovesBy (λ room. «forward'») turn result }
-    ensures count { length result.outbox ≤ length turn.outbox + 1 }
+    ensures count { result.outbox.count ≤ turn.outbox.count + 1 }
     ensures house { result.house ≡ turn.house }
 {
     if !may_forward(turn.house) {

@@ -4,4 +4,4 @@ use Rattle.turning.proofs.catch_up.Goals as goal
 
 pub returns-clause-moves : goal.returns-clause-moves
 unfolding then_do
-returns-clause-moves c = λ room m. added_turn room m c.args.turn c.push.new.self _ c.push.ensures
+returns-clause-moves c = λ room m. added_turn room m c.args.turn c.push.new.self _ c.push.ensures.list

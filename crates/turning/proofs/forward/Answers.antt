@@ -11,4 +11,4 @@ returns-then-not-may_forward-clause-moves c =
 pub returns-clause-moves : goal.returns-clause-moves
 returns-clause-moves c =
     let e : may_forward c.args.turn.house ≡ true = search rules in
-    λ room m. forwarded_turn room m c.args.turn c.push.new.self e c.push.ensures
+    λ room m. forwarded_turn room m c.args.turn c.push.new.self e c.push.ensures.list
