@@ -99,6 +99,7 @@ impl Alone {
     fn turn(&mut self, size: Option<Size>)
         requires { IfSome size (λ z. (is_tree self.old.room (take z.used self.old.next.items) ≡ true) × (z.used ≤ length self.old.next.items)) }
         ensures tree { (self.new.tree.items ≡ pick self.old.tree.items self.old.next.items size) × (self.new.used ≡ used_by self.old.used size) }
+        ensures next { self.new.next.items ≡ pick self.old.next.items self.old.tree.items size }
         ensures kept { (self.new.room ≡ self.old.room) × (self.new.said ≡ self.old.said) × (self.new.desk ≡ self.old.desk) }
     {
         if let Some(size) = size {

@@ -16,6 +16,7 @@ use script::network::{Letter, copies, part};
 use spelling::wording::InWords;
 use std::alloc::{AllocError, Global};
 use std::io;
+use std::io::Write;
 use words::types::Call;
 
 // A house's answer to a call. Until there is a replica: a refusal, by 1 where the bytes are no call, else by 12.
@@ -30,6 +31,13 @@ fn hear(_to: u8, _from: u8, _bytes: &[u8]) {}
 // A house's clock ticks.
 fn beat(_house: u8) {}
 
+// Writes a line at once, however long it is; `println!` would write it in pieces.
+fn write_line(rt: &HostRuntime, line: &str) -> io::Result<()> {
+    let mut stdout = rt.stdout();
+    stdout.write_all(line.as_bytes())?;
+    stdout.flush()
+}
+
 // A call at a house, with its answer, in words.
 fn play_call(rt: &HostRuntime, scene: &Scene, house: u8, call: &Call) -> anyhow::Result<()> {
     let heap = rt.alloc();
@@ -38,9 +46,11 @@ fn play_call(rt: &HostRuntime, scene: &Scene, house: u8, call: &Call) -> anyhow:
         return Ok(scene.refuse(rt, fault)?);
     }
     let answer = answer_in_words(heap, &ask(&bytes))?;
+    // let go before the line is made: each may be as long as the call
+    drop(bytes);
     let words = answer.as_deref().unwrap_or("no answer");
-    println!(rt; "{house}: {} -> {words}", InWords(call))?;
-    Ok(())
+    let line = format!(in heap; "{house}: {} -> {words}\n", InWords(call))?;
+    Ok(write_line(rt, &line)?)
 }
 
 // One house's clock, or all of them, where they are up.
@@ -63,7 +73,8 @@ fn take_letters(
     scene: &mut Scene,
     link: Option<Link>,
 ) -> Result<Vec<Letter>, AllocError>
-    ensures { OnOk result (scene.new.drawn.items ≡ scene.old.drawn.items) }
+    ensures drawn { OnOk result (scene.new.drawn.items ≡ scene.old.drawn.items) }
+    ensures houses { OnOk result (scene.new.houses ≡ scene.old.houses) }
 {
     let letters = std::mem::replace(&mut scene.letters, Vec::new(heap));
     let parted = part(heap, letters, link)?;

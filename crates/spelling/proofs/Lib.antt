@@ -1,3 +1,3 @@
--- Spelling one behind the other, and a byte that is written as two digits.
+-- Spelling one behind the other, and a part of the bytes in a room.
 pub mod Characters
 pub mod Loops

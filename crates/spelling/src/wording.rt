@@ -1,12 +1,17 @@
 // Calls in words.
-ghost use Rattle.std.specs.Prelude.{◌≡◌, false, Some, map};
+ghost use Rattle.std.specs.Prelude.{◌≡◌, ◌+◌, ◌*◌, ◌≤◌, false, Some, IsAscii, length, map, take};
+ghost use Rattle.std.specs.List.{list_all};
+ghost use Rattle.std.specs.Fmt.{WritesOnOk};
 ghost use Rattle.calls.specs.Reading.{expect_of};
+ghost use Rattle.lent_bytes.specs.Writers.{Wrote};
 ghost use Rattle.words.specs.Values.{name_of, path_of, act_of, call_of};
 ghost use Rattle.spelling.specs.Spelled.{plain, char_spelled, chars_spelled, value_spelled, path_spelled, expect_spelled, numbered_spelled, session_spelled, act_spelled, piece_spelled, braced_spelled, do_spelled, call_spelled};
 
 use calls::types::Expected;
 use lent_bytes::counts::Session;
-use std::fmt;
+use lent_bytes::writing::Writer;
+use std::{fmt, str};
+use text::hex::hex_digit;
 use words::reading::is_end;
 use words::types::{Act, Call, Path};
 
@@ -16,32 +21,57 @@ fn is_plain(quoted: bool, c: u8) -> bool
     32 <= c && c <= 126 && !is_end(quoted, c) && c != b'\\'
 }
 
-// A byte of a value or a name.
-// kept: the byte is any byte, and no number for a kind
-#[derive(Clone, Copy)]
-struct Character {
-    quoted: bool,
-    byte: u8,
+// Are bytes of a value or a name written as they are.
+fn are_plain(quoted: bool, bytes: &[u8]) -> bool
+    ensures { result ≡ list_all (plain quoted) bytes.now }
+{
+    bytes.iter().all(|byte| is_plain(quoted, *byte))
 }
 
-// kept: a derive would not state the text
-impl fmt::Display for Character {
-    ghost output = { λ c. Some (char_spelled c.quoted c.byte) };
-
-    fn fmt<W: fmt::Write>(&self, f: &mut fmt::Formatter<W>) -> fmt::Result {
-        let byte = self.byte;
-        if is_plain(self.quoted, byte) {
-            f.write_char(byte as char)
-        } else if byte == b'"' {
-            f.write_str("\\\"")
-        } else if byte == b'\\' {
-            f.write_str("\\\\")
-        } else if byte == b'\n' {
-            f.write_str("\\n")
-        } else {
-            write!(f, "\\x{byte:02x}")
-        }
+// Writes a byte of a value or a name: one character, or what stands for it.
+fn write_spelled(text: &mut Writer, quoted: bool, byte: u8)
+    requires { text.old.used + 4 ≤ length text.old.out.now }
+    ensures short { text.new.used ≤ text.old.used + 4 }
+    ensures ascii { IsAscii (char_spelled quoted byte) }
+    ensures wrote { Wrote text.old (char_spelled quoted byte) text.new }
+{
+    if is_plain(quoted, byte) {
+        text.bytes(&[byte]);
+    } else if byte == b'"' || byte == b'\\' {
+        text.bytes(&[b'\\', byte]);
+    } else if byte == b'\n' {
+        text.bytes(b"\\n");
+    } else {
+        text.bytes(&[b'\\', b'x', hex_digit(byte / 16), hex_digit(byte % 16)]);
     }
+}
+
+// Writes bytes of a value or a name from the start of a room on, and says where they end.
+fn spell_part(quoted: bool, bytes: &[u8], room: &mut [u8]) -> usize
+    requires { 4 * length bytes.now ≤ length room.old }
+    ensures inside { result ≤ length room.new }
+    ensures ascii { IsAscii (chars_spelled quoted bytes.now) }
+    ensures text { take result room.new ≡ chars_spelled quoted bytes.now }
+{
+    let mut text = Writer::new(room);
+    for byte in bytes {
+        write_spelled(&mut text, quoted, *byte);
+    }
+    text.used
+}
+
+// Writes bytes of a value or a name at once: a write for each would cost more than to spell it.
+// Bytes that are written as they are go out from where they lie, and others by a room of four characters for each.
+fn write_part<W: fmt::Write>(f: &mut fmt::Formatter<W>, quoted: bool, part: &[u8]) -> fmt::Result
+    requires { length part.now ≤ 64 }
+    ensures { WritesOnOk W.write_str_gives f.old result (chars_spelled quoted part.now) f.new }
+{
+    if are_plain(quoted, part) {
+        return f.write_str(str::from_utf8(part).unwrap());
+    }
+    let mut room = [0; 256];
+    let used = spell_part(quoted, part, &mut room);
+    f.write_str(str::from_utf8(&room[..used]).unwrap())
 }
 
 // The bytes of a value or a name, one behind the other.
@@ -52,16 +82,12 @@ struct Characters<'a> {
 }
 
 // kept: a derive would not state the text
-#[tactic(auto, unfolding(crate::specs::Spelled::many))]
 impl fmt::Display for Characters<'_> {
     ghost output = { λ c. Some (chars_spelled c.quoted c.bytes.now) };
 
     fn fmt<W: fmt::Write>(&self, f: &mut fmt::Formatter<W>) -> fmt::Result {
-        for byte in self.bytes {
-            f.write(Character {
-                quoted: self.quoted,
-                byte: *byte,
-            })?;
+        for part in self.bytes.chunks(64) {
+            write_part(f, self.quoted, part)?;
         }
         Ok(())
     }
