@@ -83,7 +83,7 @@ impl<'a> Cell<'a> {
     pub fn is_kid(self, path: Path<'_>) -> bool
         ensures { result ≡ is_kid (path_of path.entry.names.now) (entry_of self.entry.bytes.now) }
     {
-        // kept: the answer is a bool, so `?` can't hand on that its path is shorter. What is behind is looked at first: most paths of a tree differ in length, and `strip_prefix` compares all of the front first
+        // kept: the answer is a bool, so `?` can't hand on that its path is shorter. What is behind is looked at first: few entries stand one name below, and only of those the front is compared; `strip_prefix` would compare it of each
         let Some((front, rest)) = self.path().names.split_at_checked(path.names.len()) else {
             return false;
         };

@@ -31,7 +31,8 @@ returns-clause-found c =
     let f = at (path_of c.args.path.names.now) in
     let is = position_from_yields_List (λ x. f (entry_of x)) _ _ _ c.position.ensures.ran (YieldsList-from_first bytes_of cells_left (cut mem ps) c.cells.ensures) (λ x b q k. search rules) in
     let some : c.position.result ≡ Some c.in_ok-place.place = grind arith in
-    subst (Found f (entries_of mem ps)) some (subst (Found f (entries_of mem ps)) (sym is) (found_first f entry_of (cut mem ps)))
+    let found : Found f (entries_of mem ps) (Some c.in_ok-place.place) = subst (Found f (entries_of mem ps)) some (subst (Found f (entries_of mem ps)) (sym is) (found_first f entry_of (cut mem ps))) in
+    record { within = omega (arith, found.within); before = found.before; here = found.here }
 
 pub returns-clause-within : goal.returns-clause-within
 returns-clause-within c =
