@@ -1,9 +1,10 @@
 -- Reading undoes writing, and writing undoes reading: so a call has one run of bytes, and a run of bytes at most one call; likewise answers. Each is a type; a proof of the type is the theorem.
 -- Assumes nothing.
-use Rattle.std.specs.Prelude.{◌≡◌, ℕ, ◌<◌, Bool, true, ◌&&◌, List, length, Some, nat_lt}
+use Rattle.std.specs.Prelude.{◌≡◌, ℕ, ◌<◌, Bool, true, ◌&&◌, List, [], length, Some, nat_lt}
 use Rattle.std.specs.List.{AllByRecursion}
 use Rattle.model.specs.Tree.{Expect, Any, Version, Act, Make, Put, Drop, Check, Call, Do, Look, Kids, Open, End, Reply, No, Done, Entry', Names, Session, every}
-use Rattle.calls.specs.Format.{encode_call, decode_call, encode_reply, decode_reply}
+use Rattle.calls.specs.Format.{and_then, wholly, past, act_at, acts_at, encode_call, decode_call, encode_reply, decode_reply}
+use Rattle.calls.specs.Reading.{acts_in}
 
 -- numbers that fit the bytes that they have in the format: lengths of values four, versions, counts and sessions eight
 abbrev pub small : ℕ → Bool
@@ -35,6 +36,10 @@ fits_reply (Done ps) = true
 fits_reply (Entry' v n m c k o) = short v && (small n && (small m && (small c && (small k && small o))))
 fits_reply (Names ns) = nat_lt (length ns) 4294967296
 fits_reply (Session k) = small k
+
+-- bytes behind which nothing is left once so many acts are read are just those acts
+abbrev pub WholeActsAreRead : Type 0
+WholeActsAreRead = (n : ℕ) (bs : List ℕ) → past act_at n bs ≡ Some [] → and_then (acts_at n bs) wholly ≡ Some (acts_in n bs)
 
 abbrev pub CallsAreReadAgain : Type 0
 CallsAreReadAgain = (c : Call) → fits_call c ≡ true → decode_call (encode_call c) ≡ Some c
