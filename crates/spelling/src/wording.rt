@@ -29,6 +29,7 @@ fn are_plain(quoted: bool, bytes: &[u8]) -> bool
 }
 
 // Writes a byte of a value or a name: one character, or what stands for it.
+// kept: the byte is any byte, and no number for a kind
 fn write_spelled(text: &mut Writer, quoted: bool, byte: u8)
     requires { text.old.used + 4 ≤ length text.old.out.now }
     ensures short { text.new.used ≤ text.old.used + 4 }
